@@ -1,0 +1,9 @@
+pub mod Bit
+pub mod BitLaws
+pub mod Kleene
+pub mod Words
+pub mod Partial
+pub mod Views
+pub mod Masks
+pub mod States
+pub mod Contained

@@ -1,0 +1,4 @@
+//! Three-valued logic, and cubes of states on whole words.
+pub mod change;
+pub mod cube;
+pub mod truth;
