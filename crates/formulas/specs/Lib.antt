@@ -1,0 +1,12 @@
+pub mod Sorts
+pub mod Written
+pub mod Formula
+pub mod Decode
+pub mod Results
+pub mod Sound
+pub mod Within
+pub mod Changes
+pub mod Lawful
+pub mod Orders
+pub mod Names
+pub mod Marks
