@@ -1,0 +1,5 @@
+pub mod Steps
+pub mod Exactly
+pub mod Covered
+pub mod Pathways
+pub mod Rounds

@@ -1,0 +1,4 @@
+pub mod Tree
+pub mod Check
+pub mod Covers
+pub mod Leaves
