@@ -56,6 +56,6 @@ impl Cube {
     pub fn free_count(&self) -> u32
         ensures { λ r. ⌜ r ≡ freeCount (partial (now (self .entry))) ⌝ }
     {
-        self.width as u32 - self.known.count_ones()
+        u32::from(self.width) - self.known.count_ones()
     }
 }
