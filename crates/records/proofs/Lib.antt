@@ -1,0 +1,3 @@
+pub mod Heads
+pub mod Turns
+pub mod Written

@@ -1,0 +1,4 @@
+pub mod Sets
+pub mod Layers
+pub mod Told
+pub mod Points
