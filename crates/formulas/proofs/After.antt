@@ -20,6 +20,14 @@ use Rattle.formulas.specs.Results.{state, result, successor}
 use Rattle.formulas.specs.Sound.{kleene-sound}
 use Rattle.formulas.specs.Within.{EffectWithin, kleene-total, after-within}
 
+settled-given : (b : Bool) → settled (given b) ≡ true
+settled-given true = refl
+settled-given false = refl
+
+sure-given : (b : Bool) → sure (given b) ≡ b
+sure-given true = refl
+sure-given false = refl
+
 -- the cube after the effect has the state after each state
 pub successor-has : (e : Effect) (c : PartialState) (s : ℕ) → In c s → In (successor e c) (result (c .width) e s)
 successor-has e c s i = record {
@@ -37,13 +45,11 @@ successor-has e c s i = record {
         (kleene-sound (truth c) (state s) (has-from c s (i .agrees)) (after v e)))
     go v (inr l) = subst (λ t. Allows t (bit v (result (c .width) e s))) (sym (truth-high (successor e c) fine v l)) tt
 
-settled-given : (b : Bool) → settled (given b) ≡ true
-settled-given true = refl
-settled-given false = refl
-
-sure-given : (b : Bool) → sure (given b) ≡ b
-sure-given true = refl
-sure-given false = refl
+-- the values after an effect, where each variable has its value in s
+pub successor-value : (e : Effect) (c : PartialState) (s : ℕ) → ((v : ℕ) → v < c .width → truth c v ≡ given (state s v)) → EffectWithin (c .width) e → successor e c .value ≡ result (c .width) e s
+successor-value e c s total h =
+    sym (word-is (c .width) _ (result (c .width) e s) (word-below (c .width) _)
+    (λ v k. bit-word (c .width) _ v k ∙ sym (ap sure (kleene-total (c .width) (truth c) (state s) total (after v e) (after-within (c .width) v e h k)) ∙ sure-given _)))
 
 -- the cube after the effect of a single state is the state after that
 pub successor-single : (e : Effect) (w s : ℕ) → EffectWithin w e → successor e (single w s) ≡ single w (result w e s)

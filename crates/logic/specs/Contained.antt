@@ -1,10 +1,10 @@
 -- A cube and the truths of its variables.
 use mathlib.Core.Path.{_≡_, refl, sym, ap, ap₂, subst, _∙_}
 use mathlib.Core.Bool.{Bool, true, false, _&&_, cond}
-use Prim.Native.Nat.{ℕ, _-_, _^_, _<_, _≤_}
+use Prim.Native.Nat.{ℕ, _-_, _%_, _^_, _<_, _≤_}
 use native.Mathlib.Nat.{lt-of-le-of-lt}
 use native.Mathlib.Omega.{arith}
-use lib.Bits.{bitAnd, and-le-r}
+use lib.Bits.{bitAnd, and-le-r, and-mask}
 use Rattle.std.proofs.shelf.Tests.{false≢true}
 use Rattle.logic.specs.declared.truth.Truth.{Truth}
 use Rattle.logic.specs.declared.truth.Truth.the-variants.{True, False, Open}
@@ -50,6 +50,14 @@ truth-high c fine v h = ap (λ b. cond b (given (bit v (c .value))) Open) (bit-h
 
 pub truth-single : (w s v : ℕ) → v < w → truth (single w s) v ≡ given (bit v s)
 truth-single w s v h = ap (λ b. cond b (given (bit v s)) Open) (bit-ones w v h)
+
+-- only the digits below the width count
+pub truth-lowest : (w s v : ℕ) → v < w → truth (single w (s % 2 ^ w)) v ≡ given (bit v s)
+truth-lowest w s v h = truth-single w (s % 2 ^ w) v h ∙ ap given (ap (bit v) (sym (and-mask s w)) ∙ bit-and v s (2 ^ w - 1) ∙ ap (λ b. bit v s && b) (bit-ones w v h) ∙ and-one (bit v s))
+  where
+    and-one : (b : Bool) → (b && true) ≡ b
+    and-one true = refl
+    and-one false = refl
 
 given-known : (b : Bool) → given b ≡ Open → ⊥
 given-known true e = let z : _≡_ {A = ℕ} 0 1 = cc in omega arith
