@@ -1,0 +1,3 @@
+//! The job card: what is known of a task.
+pub mod card;
+pub mod lodging;

@@ -1,0 +1,3 @@
+pub mod Verdicts
+pub mod Achieves
+pub mod Faults
