@@ -1,0 +1,4 @@
+pub mod Listed
+pub mod Answered
+pub mod Found
+pub mod Rules

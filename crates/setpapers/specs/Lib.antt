@@ -6,3 +6,6 @@ pub mod Count
 pub mod Counted
 pub mod Lists
 pub mod ListLaws
+pub mod Decisions
+pub mod Diagrams
+pub mod DiagramLaws
