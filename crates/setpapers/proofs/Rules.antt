@@ -9,15 +9,17 @@ use lib.Dec.{ltb, eqb}
 use Rattle.std.specs.declared.result.Result.{Result}
 use Rattle.std.specs.declared.result.Result.the-variants.{Ok, Err}
 use Rattle.std.proofs.shelf.Tests.{and-parts, and-from, or-cases, or-left, or-right, ltb-true, ltb-false, lt-ltb, cases-bool, both-ways}
-use Rattle.records.specs.declared.PaperKind.the-variants.{List as ListPaper, Diagram as DiagramPaper}
+use Rattle.records.specs.declared.PaperKind.the-variants.{List as ListPaper, Diagram as DiagramPaper, Formula as FormulaPaper}
 use Rattle.records.specs.Papers.{Exact}
 use Rattle.records.specs.Single.{singleIn}
 use Rattle.setpapers.specs.Count.{above, rises}
 use Rattle.setpapers.specs.declared.entry.Entry.{Entry}
 use Rattle.setpapers.specs.Diagrams.{entries, entryAt, lawful-child, lawful, diagramVerdict, diagramIn, Child, DiagramEntry}
+use Rattle.setpapers.specs.FormulaSets.{lawful-at, formulaVerdict, formulaIn, FormulaNode}
 use Rattle.setpapers.specs.Lists.{states, stateAt, listVerdict, listIn, ListedState}
 use Rattle.setpapers.specs.Papers.{answered, Found}
 use Rattle.setpapers.specs.Rows.{all, all-parts}
+use Rattle.setpapers.proofs.Naming.{formula-node-to, formula-node-from}
 use Rattle.setpapers.proofs.Found.{verdict-judged, paper-found}
 
 -- ---- lists
@@ -86,3 +88,10 @@ pub diagram-found : (w : ℕ) (paper : List ℕ) → Exact DiagramPaper paper (s
 diagram-found w paper exact =
     paper-found DiagramPaper 1 entries (DiagramEntry w) paper (diagramVerdict w) exact
     (λ bs. verdict-judged 1 (lawful w (entryAt bs)) (DiagramEntry w bs) (λ i a. entry-to w bs i (all-parts (lawful w (entryAt bs)) i a .1)) (entry-from w bs) (entries bs))
+
+-- ---- formulas
+
+pub formula-found : (w : ℕ) (paper : List ℕ) → Exact FormulaPaper paper (singleIn FormulaPaper paper) → Found FormulaPaper 1 entries (FormulaNode w) paper (answered (formulaIn w paper))
+formula-found w paper exact =
+    paper-found FormulaPaper 1 entries (FormulaNode w) paper (formulaVerdict w) exact
+    (λ bs. verdict-judged 1 (lawful-at w bs) (FormulaNode w bs) (formula-node-to w bs) (formula-node-from w bs) (entries bs))

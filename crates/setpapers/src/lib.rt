@@ -2,4 +2,6 @@
 pub mod diagram;
 pub mod entry;
 pub mod fault;
+pub mod formula;
 pub mod list;
+pub mod paper;
