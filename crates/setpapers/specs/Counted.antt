@@ -51,11 +51,11 @@ card-one (suc w) y p l h =
     let b = card-one w (y / 2) (λ x. p (x * 2 + 1)) k (λ x e. omega (arith, h (x * 2 + 1) e)) in
     ⊎-elim
     (λ (even : y ≡ y / 2 * 2).
-        let off : p (y / 2 * 2 + 1) ≡ false = ⊎-elim (λ t. absurd (omega (arith, h _ t))) (λ f. f) (cases-bool (p (y / 2 * 2 + 1))) in
-        omega (arith, ap digit off, ap (λ x. digit (p x)) even))
+    let off : p (y / 2 * 2 + 1) ≡ false = ⊎-elim (λ t. absurd (omega (arith, h _ t))) (λ f. f) (cases-bool (p (y / 2 * 2 + 1))) in
+    omega (arith, ap digit off, ap (λ x. digit (p x)) even))
     (λ (odd : y ≡ y / 2 * 2 + 1).
-        let off : p (y / 2 * 2) ≡ false = ⊎-elim (λ t. absurd (omega (arith, h _ t))) (λ f. f) (cases-bool (p (y / 2 * 2))) in
-        omega (arith, ap digit off, ap (λ x. digit (p x)) odd))
+    let off : p (y / 2 * 2) ≡ false = ⊎-elim (λ t. absurd (omega (arith, h _ t))) (λ f. f) (cases-bool (p (y / 2 * 2))) in
+    omega (arith, ap digit off, ap (λ x. digit (p x)) odd))
     (parity y)
 
 bit-le : (a b : Bool) → (a ≡ true → b ≡ true) → digit a ≤ digit b
@@ -89,11 +89,11 @@ card-full (suc w) p q h e x l t =
     let k = half-below w x l in
     ⊎-elim
     (λ (even : x ≡ x / 2 * 2).
-        subst (λ y. p y ≡ true) (sym even)
-        (card-full w (λ x. p (x * 2)) (λ x. q (x * 2)) (λ x. h (x * 2)) (omega arith) (x / 2) k (subst (λ y. q y ≡ true) even t)))
+    subst (λ y. p y ≡ true) (sym even)
+    (card-full w (λ x. p (x * 2)) (λ x. q (x * 2)) (λ x. h (x * 2)) (omega arith) (x / 2) k (subst (λ y. q y ≡ true) even t)))
     (λ (odd : x ≡ x / 2 * 2 + 1).
-        subst (λ y. p y ≡ true) (sym odd)
-        (card-full w (λ x. p (x * 2 + 1)) (λ x. q (x * 2 + 1)) (λ x. h (x * 2 + 1)) (omega arith) (x / 2) k (subst (λ y. q y ≡ true) odd t)))
+    subst (λ y. p y ≡ true) (sym odd)
+    (card-full w (λ x. p (x * 2 + 1)) (λ x. q (x * 2 + 1)) (λ x. h (x * 2 + 1)) (omega arith) (x / 2) k (subst (λ y. q y ≡ true) odd t)))
     (parity x)
 
 -- ---- the states of a cube: 2 to the number of free variables
@@ -148,25 +148,25 @@ card-cube (suc w) k v h s =
     let low = low-settled k v s in
     ⊎-elim
     (λ (free : k % 2 ≡ 0).
-        let n : suc w - ones k ≡ suc (w - ones (k / 2)) = omega arith in
-        let z : v % 2 ≡ 0 = omega arith in
-        let a = ap (card w) (λ i x. even-in k v s z x i) in
-        let b = ap (card w) (λ i x. odd-in k v s (z ∙ sym free) x i) in
-        omega (arith, a, b, ap (λ m. 2 ^ m) n, pow-suc 2 (w - ones (k / 2))))
+    let n : suc w - ones k ≡ suc (w - ones (k / 2)) = omega arith in
+    let z : v % 2 ≡ 0 = omega arith in
+    let a = ap (card w) (λ i x. even-in k v s z x i) in
+    let b = ap (card w) (λ i x. odd-in k v s (z ∙ sym free) x i) in
+    omega (arith, a, b, ap (λ m. 2 ^ m) n, pow-suc 2 (w - ones (k / 2))))
     (λ (known : k % 2 ≡ 0 → ⊥).
-        let one : k % 2 ≡ 1 = omega arith in
-        let n : suc w - ones k ≡ w - ones (k / 2) = omega arith in
-        ⊎-elim
-        (λ (z : v % 2 ≡ 0).
-            let a = ap (card w) (λ i x. even-in k v s z x i) in
-            let b = card-none w (λ x. meets k v (x * 2 + 1)) (odd-out k v s z one) in
-            omega (arith, a, b, ap (λ m. 2 ^ m) n))
-        (λ (u : v % 2 ≡ 0 → ⊥).
-            let y : v % 2 ≡ 1 = omega arith in
-            let a = card-none w (λ x. meets k v (x * 2)) (even-out k v s y) in
-            let b = ap (card w) (λ i x. odd-in k v s (y ∙ sym one) x i) in
-            omega (arith, a, b, ap (λ m. 2 ^ m) n))
-        (cases-eq (v % 2) 0))
+    let one : k % 2 ≡ 1 = omega arith in
+    let n : suc w - ones k ≡ w - ones (k / 2) = omega arith in
+    ⊎-elim
+    (λ (z : v % 2 ≡ 0).
+    let a = ap (card w) (λ i x. even-in k v s z x i) in
+    let b = card-none w (λ x. meets k v (x * 2 + 1)) (odd-out k v s z one) in
+    omega (arith, a, b, ap (λ m. 2 ^ m) n))
+    (λ (u : v % 2 ≡ 0 → ⊥).
+    let y : v % 2 ≡ 1 = omega arith in
+    let a = card-none w (λ x. meets k v (x * 2)) (even-out k v s y) in
+    let b = ap (card w) (λ i x. odd-in k v s (y ∙ sym one) x i) in
+    omega (arith, a, b, ap (λ m. 2 ^ m) n))
+    (cases-eq (v % 2) 0))
     (cases-eq (k % 2) 0)
 
 -- ---- rising entries
@@ -208,7 +208,7 @@ module _ (w : ℕ) (e : ℕ → ℕ) where
       let a = rising-parts n r in
       let ih = tally-card n p (a .0) in
       let cut = card-add w (λ x. p x && (eqb (e n) x || listed e n x)) (λ x. p x && listed e n x) (λ x. p x && eqb (e n) x)
-            (λ x. split-digit (p x) (eqb (e n) x) (listed e n x) (λ s l. omega (arith, eqb-true (e n) x s, listed-before n x r l))) in
+      (λ x. split-bit (p x) (eqb (e n) x) (listed e n x) (λ s l. omega (arith, eqb-true (e n) x s, listed-before n x r l))) in
       let one = card-one w (e n) (λ x. p x && eqb (e n) x) (a .1) (λ x h. sym (eqb-true _ _ (and-parts _ _ h .1))) in
       let here : (p (e n) && eqb (e n) (e n)) ≡ p (e n) = rw (eq-eqb (e n) (e n) refl) (elim (p (e n)) as (λ b. (b && true) ≡ b) [ true ↦ refl | false ↦ refl ]) in
       omega (arith, ih, cut, one, ap digit here)

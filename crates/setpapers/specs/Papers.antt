@@ -31,12 +31,20 @@ abbrev pub kept : Result (List ℕ) SetFault → List ℕ
 kept (Ok body) = body
 kept (Err e) = []
 
--- what a reader's answer says of a paper of this kind, of which count tells the entries, at least so many, and each is to keep the rule P:
--- the fault is the first that fits
+-- what a verdict says of n entries, at least so many, each of which is to keep the rule P: the fault is the first that fits
+abbrev pub Judged : ℕ → (ℕ → Type 0) → ℕ → Result (Unit {0}) SetFault → Type 0
+Judged least P n (Ok x) = (least ≤ n) × (n ≤ 1024) × ((i : ℕ) → i < n → P i)
+Judged least P n (Err (Record fault)) = ⊥
+Judged least P n (Err TooMany) = 1024 < n
+Judged least P n (Err (BadEntry i)) = (n ≤ 1024) × (((n < least) × (i ≡ 0)) ⊎ ((i < n) × ((j : ℕ) → j < i → P j) × (P i → ⊥)))
+
+-- the paper holds a body of which that is said; count tells its entries
+abbrev pub OfBody : PaperKind → ℕ → (List ℕ → ℕ) → (List ℕ → ℕ → Type 0) → List ℕ → Result (Unit {0}) SetFault → Type 0
+OfBody kind least count P paper r = (body : List ℕ) × (Holds kind body paper) × Judged least (P body) (count body) r
+
+-- what a reader's answer says of a paper of this kind: its records are at fault, or its body is accepted or refused
 abbrev pub Found : PaperKind → ℕ → (List ℕ → ℕ) → (List ℕ → ℕ → Type 0) → List ℕ → Result (Unit {0}) SetFault → Type 0
-Found kind least count P paper (Ok x) = (body : List ℕ) × (Holds kind body paper) × (least ≤ count body) × (count body ≤ 1024) × ((i : ℕ) → i < count body → P body i)
+Found kind least count P paper (Ok x) = OfBody kind least count P paper (Ok x)
 Found kind least count P paper (Err (Record fault)) = (singleIn kind paper ≡ Err fault) × ((body : List ℕ) → Holds kind body paper → ⊥)
-Found kind least count P paper (Err TooMany) = (body : List ℕ) × (Holds kind body paper) × (1024 < count body)
-Found kind least count P paper (Err (BadEntry i)) =
-    (body : List ℕ) × (Holds kind body paper) × (count body ≤ 1024)
-    × (((count body < least) × (i ≡ 0)) ⊎ ((i < count body) × ((j : ℕ) → j < i → P body j) × (P body i → ⊥)))
+Found kind least count P paper (Err TooMany) = OfBody kind least count P paper (Err TooMany)
+Found kind least count P paper (Err (BadEntry i)) = OfBody kind least count P paper (Err (BadEntry i))

@@ -2,7 +2,8 @@
 ghost use mathlib.Core.Path.{_≡_};
 ghost use mathlib.Core.Bool.{Bool, true, false};
 ghost use mathlib.Core.List.{[]};
-ghost use Prim.Native.Nat.{ℕ, _/_, _<_, _≤_};
+ghost use Prim.Native.Nat.{ℕ, _/_, _^_, _<_, _≤_};
+ghost use lib.Dec.{ltb};
 ghost use lib.ListN.{length};
 ghost use Rattle.records.specs.declared.PaperKind.the-variants.{List as ListPaper};
 ghost use Rattle.setpapers.specs.Count.{rises};
@@ -15,16 +16,20 @@ use crate::fault::SetFaultFromRecord;
 use records::PaperKind;
 use records::single;
 
+/// Whether the word has no bit from the width up.
+fn fits(width: u8, word: u64) -> bool
+    ensures { λ r. ⌜ r ≡ ltb word (2 ^ width) ⌝ }
+{
+    width >= 64 || word >> width == 0
+}
+
 /// Whether the entry `i` is a state of the width, above the one before it.
 fn is_lawful(width: u8, body: &[u8], i: usize) -> bool
     requires { ⌜ i < states (now body) ⌝ }
     ensures { λ r. ⌜ r ≡ rises width (stateAt (now (body .entry))) i ⌝ }
 {
     let entry = state(body, i);
-    if width < 64 && entry >> width != 0 {
-        return false;
-    }
-    i == 0 || state(body, i - 1) < entry
+    fits(width, entry) && (i == 0 || state(body, i - 1) < entry)
 }
 
 /// Whether the bytes list states of the width, and if not why.
