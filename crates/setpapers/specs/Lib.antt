@@ -1,0 +1,17 @@
+pub mod Faults
+pub mod Rows
+pub mod Verdicts
+pub mod Papers
+pub mod Count
+pub mod Counted
+pub mod Lists
+pub mod ListLaws
+pub mod Decisions
+pub mod Diagrams
+pub mod DiagramLaws
+pub mod Tabled
+pub mod FormulaSets
+pub mod FormulaLaws
+pub mod Claiming
+pub mod Keeping
+pub mod PaperSets
