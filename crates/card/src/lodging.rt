@@ -39,13 +39,7 @@ impl<C: Cost> Card<C> {
         ensures { λ r. ⌜ r ≡ better (C·Cost .kind) (now (self .entry) .cost) cost ⌝ }
     {
         match self.cost {
-            Some(old) => {
-                if old.at_most(&cost) {
-                    old
-                } else {
-                    cost
-                }
-            }
+            Some(old) => { if old.at_most(&cost) { old } else { cost } }
             None => cost,
         }
     }

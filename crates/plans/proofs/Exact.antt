@@ -53,7 +53,7 @@ some-some (Some a) f b e = (a, refl, e)
 
 module _ {C : Type 0} (K : Kind C) (m : Model) where
   -- one step
-  record Next (r : Reached C) (o : ℕ) (q : Reached C) : Type 0 where
+  pub record Next (r : Reached C) (o : ℕ) (q : Reached C) : Type 0 where
     pub room : r .steps < 4096
     pub step : Steps m (r .state) o (q .state)
     pub steps : q .steps ≡ r .steps + 1
@@ -100,12 +100,12 @@ module _ {C : Type 0} (K : Kind C) (m : Model) where
       ∙ λ i. Ok (reached (sym (results-is (m .variables) (a .effect) (r .state) (q .state) (n .step .gives)) i) (sym (n .steps) i) (q .cost))
 
   -- all steps
-  record Ran (r : Reached C) (os : List ℕ) (q : Reached C) : Type 0 where
+  pub record Ran (r : Reached C) (os : List ℕ) (q : Reached C) : Type 0 where
     pub leads : Leads m (r .state) os (q .state)
     pub steps : q .steps ≡ r .steps + length os
     pub cost : costFrom K m (r .cost) os ≡ Some (q .cost)
 
-  run-to : (os : List ℕ) (r q : Reached C) → run K m r os ≡ Ok q → Ran r os q
+  pub run-to : (os : List ℕ) (r q : Reached C) → run K m r os ≡ Ok q → Ran r os q
   run-to [] r q e =
       let is : r ≡ q = cc in
       record { leads = ap (λ x. x .state) is; steps = omega (arith, ap (λ x. x .steps) is); cost = ap (λ x. Some (x .cost)) is }
@@ -138,7 +138,7 @@ module _ {C : Type 0} (K : Kind C) (m : Model) where
       ap (λ x. andThen x (λ p. run K m p os)) (next-from r o p n)
       ∙ run-from os p q (omega arith) (record { leads = a .leads .2; steps = omega (arith, a .steps); cost = paid .2 })
 
-  judged-to : (os : List ℕ) (q : Reached C) → judged K m os ≡ Ok q → Achieves K m os q
+  pub judged-to : (os : List ℕ) (q : Reached C) → judged K m os ≡ Ok q → Achieves K m os q
   judged-to os q e =
       let p = cond-bad (ltb 4096 (length os)) _ TooManySteps q e in
       let t = then-ok (run K m (begin K m) os) (finished m) q (p .1) in
