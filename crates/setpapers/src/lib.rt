@@ -3,6 +3,4 @@ pub mod diagram;
 pub mod entry;
 pub mod fault;
 pub mod formula;
-pub mod layered;
 pub mod list;
-pub mod paper;
