@@ -17,14 +17,17 @@ use Rattle.setpapers.specs.Count.{card, meets, tally, listed, above, rises, ri
 
 -- ---- halves
 
+-- half of a number has one digit less
 half-below : (w x : ℕ) → x < 2 ^ suc w → x / 2 < 2 ^ w
 half-below w x h = let e = pow-suc 2 w in let d = div-add-mod' x 2 in omega arith
 
+-- a number is even or odd
 parity : (x : ℕ) → (x ≡ x / 2 * 2) ⊎ (x ≡ x / 2 * 2 + 1)
 parity x = ⊎-elim (λ e. inl (omega (arith, div-add-mod' x 2))) (λ e. inr (omega (arith, div-add-mod' x 2))) (cases-eq (x % 2) 0)
 
 -- ---- `card`
 
+-- a test that two share between them
 pub card-add : (w : ℕ) (p q r : ℕ → Bool) → ((x : ℕ) → digit (p x) ≡ digit (q x) + digit (r x)) → card w p ≡ card w q + card w r
 unfolding card
 card-add zero p q r h = h 0
@@ -33,6 +36,7 @@ card-add (suc w) p q r h =
     let b = card-add w (λ x. p (x * 2 + 1)) (λ x. q (x * 2 + 1)) (λ x. r (x * 2 + 1)) (λ x. h (x * 2 + 1)) in
     omega arith
 
+-- a test that none passes
 pub card-none : (w : ℕ) (p : ℕ → Bool) → ((x : ℕ) → p x ≡ false) → card w p ≡ 0
 unfolding card
 card-none zero p h = ap digit (h 0)
@@ -58,17 +62,21 @@ card-one (suc w) y p l h =
     omega (arith, ap digit off, ap (λ x. digit (p x)) odd))
     (parity y)
 
+-- a test within another
 bit-le : (a b : Bool) → (a ≡ true → b ≡ true) → digit a ≤ digit b
 bit-le a b h = ⊎-elim (λ e. omega (arith, ap digit e, ap digit (h e))) (λ e. omega (arith, ap digit e)) (cases-bool a)
 
+-- a test that holds where another does
 bit-same : (a b : Bool) → digit a ≡ digit b → b ≡ true → a ≡ true
 bit-same true b e h = refl
 bit-same false b e h = absurd (omega (arith, ap digit h))
 
+-- a test that counts nothing
 bit-zero : (a : Bool) → digit a ≡ 0 → a ≡ false
 bit-zero true e = absurd (omega arith)
 bit-zero false e = refl
 
+-- a part is at most the whole
 pub card-le : (w : ℕ) (p q : ℕ → Bool) → ((x : ℕ) → p x ≡ true → q x ≡ true) → card w p ≤ card w q
 unfolding card
 card-le zero p q h = bit-le (p 0) (q 0) (h 0)
@@ -98,6 +106,7 @@ card-full (suc w) p q h e x l t =
 
 -- ---- the states of a cube: 2 to the number of free variables
 
+-- tests of the same
 eqb-same : (a b c d : ℕ) → (a ≡ b → c ≡ d) → (c ≡ d → a ≡ b) → eqb a b ≡ eqb c d
 eqb-same a b c d f g =
     ⊎-elim (λ e. eq-eqb a b e ∙ sym (eq-eqb c d (f e))) (λ n. ne-eqb a b n ∙ sym (ne-eqb c d (λ e. n (g e)))) (cases-eq a b)
@@ -134,6 +143,7 @@ module _ (k v : ℕ) (settled : bitAnd v k ≡ v) where
   odd-out : v % 2 ≡ 0 → k % 2 ≡ 1 → (x : ℕ) → meets k v (x * 2 + 1) ≡ false
   odd-out l o x = let s = and-odd x in ne-eqb _ _ (λ e. omega arith)
 
+-- so many states a cube has
 pub card-cube : (w k v : ℕ) → k < 2 ^ w → bitAnd v k ≡ v → card w (meets k v) ≡ 2 ^ (w - ones k)
 unfolding card
 card-cube zero k v h s =
@@ -209,7 +219,7 @@ module _ (w : ℕ) (e : ℕ → ℕ) where
       let ih = tally-card n p (a .0) in
       let cut = card-add w (λ x. p x && (eqb (e n) x || listed e n x)) (λ x. p x && listed e n x) (λ x. p x && eqb (e n) x)
       (λ x. split-bit (p x) (eqb (e n) x) (listed e n x) (λ s l. omega (arith, eqb-true (e n) x s, listed-before n x r l))) in
-      let one = card-one w (e n) (λ x. p x && eqb (e n) x) (a .1) (λ x h. sym (eqb-true _ _ (and-parts _ _ h .1))) in
+      let one = card-one w (e n) (λ x. p x && eqb (e n) x) (a .1) (λ x h. sym (eqb-true (e n) x (and-parts (p x) (eqb (e n) x) h .1))) in
       let here : (p (e n) && eqb (e n) (e n)) ≡ p (e n) = rw (eq-eqb (e n) (e n) refl) (elim (p (e n)) as (λ b. (b && true) ≡ b) [ true ↦ refl | false ↦ refl ]) in
       omega (arith, ih, cut, one, ap digit here)
 
@@ -232,6 +242,7 @@ module _ (w : ℕ) (e : ℕ → ℕ) where
         let f : w - ones k ≡ 0 = omega (arith, ap ones t, ones-ones w) in
         omega (arith, tally-le, ap (λ m. 2 ^ m) f)
 
+-- none of those listed
 pub tally-none : (e : ℕ → ℕ) (p : ℕ → Bool) (n : ℕ) → tally p e n ≡ 0 → (x : ℕ) → listed e n x ≡ true → p x ≡ false
 unfolding tally listed
 tally-none e p zero z x l = absurd (both-ways _ refl l)
@@ -241,6 +252,7 @@ tally-none e p (suc n) z x l =
     (tally-none e p n (omega arith) x)
     (or-cases _ _ l)
 
+-- at most all of the entries
 pub tally-bound : (e : ℕ → ℕ) (p : ℕ → Bool) (n : ℕ) → tally p e n ≤ n
 unfolding tally
 tally-bound e p zero = omega arith
@@ -254,6 +266,7 @@ pub tally-hit : (e : ℕ → ℕ) (p : ℕ → Bool) (n : ℕ) → p (e n) ≡ t
 unfolding tally
 tally-hit e p n h = ap (tally p e) (add-one n) ∙ ap (λ b. tally p e n + digit b) h
 
+-- one entry more that does not pass
 pub tally-miss : (e : ℕ → ℕ) (p : ℕ → Bool) (n : ℕ) → p (e n) ≡ false → tally p e (n + 1) ≡ tally p e n
 unfolding tally
 tally-miss e p n h = ap (tally p e) (add-one n) ∙ ap (λ b. tally p e n + digit b) h ∙ add-zero (tally p e n)

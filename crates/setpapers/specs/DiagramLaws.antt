@@ -20,6 +20,7 @@ use Rattle.setpapers.specs.Diagrams.{child, entry-decision, decision-to, decis
 
 -- ---- decisions
 
+-- what two agree on holds of either
 agree-says : (a b : Answer) (x y t : Bool) → Says a x → Says b y → Says (agree a b) (cond t y x)
 agree-says Inside Inside x y true p q = q
 agree-says Inside Inside x y false p q = p
@@ -31,27 +32,32 @@ agree-says Outside Outside x y false p q = p
 agree-says Outside Open x y t p q = tt
 agree-says Open b x y t p q = tt
 
+-- what the picked one says holds
 pick-says : (τ : Truth) (a b : Answer) (x y t : Bool) → Allows τ t → Says a x → Says b y → Says (pick τ a b) (cond t y x)
 pick-says True a b x y t h p q = subst (Says b) (sym (cond-true t y x h)) q
 pick-says False a b x y t h p q = subst (Says a) (sym (cond-false t y x h)) p
 pick-says Unknown a b x y t h p q = agree-says a b x y t p q
 
+-- what a decision answers to a cube holds of each of its states
 decision-says : (ρ : ℕ → Truth) (s : ℕ → Bool) → Has ρ s → (d : Decision) → Says (answers ρ d) (picks s d)
 decision-says ρ s h out = refl
 decision-says ρ s h inn = refl
 decision-says ρ s h (test v low high) =
     pick-says (ρ v) (answers ρ low) (answers ρ high) (picks s low) (picks s high) (s v) (h v) (decision-says ρ s h low) (decision-says ρ s h high)
 
+-- a known variable picks an answer that is not open
 pick-settles : (τ : Truth) (a b : Answer) → (τ ≡ Unknown → ⊥) → (a ≡ Open → ⊥) → (b ≡ Open → ⊥) → pick τ a b ≡ Open → ⊥
 pick-settles True a b h p q = q
 pick-settles False a b h p q = p
 pick-settles Unknown a b h p q = absurd (h refl)
 
+-- an answer that is not open
 abbrev fixed : Answer → Type 0
 fixed Inside = Unit {0}
 fixed Outside = Unit {0}
 fixed Open = ⊥
 
+-- where no variable is open, no answer is
 decision-settles : (w : ℕ) (ρ : ℕ → Truth) → Settled w ρ → (d : Decision) → Below w d → answers ρ d ≡ Open → ⊥
 decision-settles w ρ h out b = λ e. subst fixed e tt
 decision-settles w ρ h inn b = λ e. subst fixed e tt
@@ -125,10 +131,12 @@ module _ (w : ℕ) (e : ℕ → Entry) (n : ℕ) (fine : all (lawful w e) n ≡ 
         child-so R out inn tt tt (decision-to k e) (λ j. tt) i (e i .high) tt tt under (high-below w e i (at i hi)),
       )
 
+-- the root tests only variables below w
 root-below : (w : ℕ) (e : ℕ → Entry) (n : ℕ) → all (lawful w e) n ≡ true → Below w (root e n)
 root-below w e zero fine = tt
 root-below w e (suc n) fine = decision-below w e (suc n) fine (suc n) n (omega arith)
 
+-- a diagram is a set
 pub diagram-laws : (w : ℕ) (e : ℕ → Entry) (n : ℕ) → all (lawful w e) n ≡ true → Laws w (statesWhere w (λ s. picks s (root e n))) (told w (λ ρ. answers ρ (root e n)))
 diagram-laws w e n fine =
     told-laws w (λ s. picks s (root e n)) (λ ρ. answers ρ (root e n)) (record {

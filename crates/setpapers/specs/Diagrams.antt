@@ -42,6 +42,7 @@ abbrev pub decision-to : ℕ → (ℕ → Entry) → ℕ → Decision
 decision-to zero e i = out
 decision-to (suc k) e i = entry-decision (decision-to k e) (e i)
 
+-- the decision of the entry i
 abbrev pub decision-at : (ℕ → Entry) → ℕ → Decision
 decision-at e i = decision-to (suc i) e i
 
@@ -54,9 +55,11 @@ root e (suc n) = decision-at e n
 abbrev pub decisionIn : List ℕ → Decision
 decisionIn bs = root (entryAt bs) (entries bs)
 
+-- the states of width w that the diagram picks
 abbrev pub diagramHas : ℕ → List ℕ → ℕ → Bool
 diagramHas w bs = statesWhere w (λ s. picks s (decisionIn bs))
 
+-- the answer to any cube
 abbrev pub diagramAnswer : ℕ → List ℕ → PartialState → Answer
 diagramAnswer w bs = told w (λ ρ. answers ρ (decisionIn bs))
 

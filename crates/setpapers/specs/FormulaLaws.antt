@@ -31,6 +31,7 @@ use Rattle.setpapers.specs.Diagrams.{entries}
 use Rattle.setpapers.specs.Tabled.{table, length-table, getD-table}
 use Rattle.setpapers.specs.FormulaSets.{decodedAt, node-or, nodeAt, nodesIn, root-to, formulaOf, answerFor, formulaHas, formulaAnswer, namedBy, fits, lawful-node, lawful-at}
 
+-- what a truth says of a state, its answer says
 answer-says : (τ : Truth) (b : Bool) → Allows τ b → Says (answerFor τ) b
 answer-says True b h = h
 answer-says False b h = h
@@ -38,20 +39,24 @@ answer-says Unknown b h = tt
 
 -- ---- where no variable is open, no formula is
 
+-- a truth that is not open
 given-sure : (τ : Truth) → (τ ≡ Unknown → ⊥) → τ ≡ given (sure τ)
 given-sure True h = refl
 given-sure False h = refl
 given-sure Unknown h = absurd (h refl)
 
+-- an answer that is not open
 abbrev settled : Answer → Type 0
 settled Inside = Unit {0}
 settled Outside = Unit {0}
 settled Open = ⊥
 
+-- such is that of a truth that has a value
 answer-settled : (b : Bool) → settled (answerFor (given b))
 answer-settled true = tt
 answer-settled false = tt
 
+-- where no variable is open, no answer is
 formula-settles : (w : ℕ) (ρ : ℕ → Truth) → Settled w ρ → (φ : Formula) → Within w φ → answerFor (kleene ρ φ) ≡ Open → ⊥
 formula-settles w ρ h φ within e =
     let s : ℕ → Bool = λ v. sure (ρ v) in
@@ -60,6 +65,7 @@ formula-settles w ρ h φ within e =
 
 -- ---- lawful nodes are in order
 
+-- a lawful node is in order
 node-ordered : (w i : ℕ) (ns : List ℕ) (o : Option Node) → lawful-node w i ns o ≡ true → ordered w i (node-or o) ≡ true
 node-ordered w i ns (Some N) h = and-parts (formulaNode N) (ordered w i N) (and-parts (fits w i N) _ h .0) .1
 node-ordered w i ns None h = refl

@@ -36,9 +36,11 @@ abbrev pub node-or : Option Node → Node
 node-or (Some N) = N
 node-or None = no-node
 
+-- the node i of the bytes
 abbrev pub nodeAt : List ℕ → ℕ → Node
 nodeAt bs i = node-or (decodedAt bs i)
 
+-- all the nodes of the bytes
 abbrev pub nodesIn : List ℕ → List Node
 nodesIn bs = table (nodeAt bs) (entries bs)
 
@@ -57,9 +59,11 @@ answerFor True = Inside
 answerFor False = Outside
 answerFor Unknown = Open
 
+-- the states of width w in which the formula holds
 abbrev pub formulaHas : ℕ → List ℕ → ℕ → Bool
 formulaHas w bs = statesWhere w (λ s. holds s (formulaOf bs))
 
+-- the answer to any cube
 abbrev pub formulaAnswer : ℕ → List ℕ → PartialState → Answer
 formulaAnswer w bs = told w (λ ρ. answerFor (kleene ρ (formulaOf bs)))
 
@@ -77,6 +81,7 @@ abbrev pub lawful-node : ℕ → ℕ → List ℕ → Option Node → Bool
 lawful-node w i ns (Some N) = fits w i N && not (clash ns (children N))
 lawful-node w i ns None = false
 
+-- the node i of the bytes is lawful after those before it
 abbrev pub lawful-at : ℕ → List ℕ → ℕ → Bool
 lawful-at w bs i = lawful-node w i (namedBy (nodeAt bs) i) (decodedAt bs i)
 

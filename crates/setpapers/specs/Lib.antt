@@ -13,5 +13,3 @@ pub mod Tabled
 pub mod FormulaSets
 pub mod FormulaLaws
 pub mod Claiming
-pub mod Keeping
-pub mod PaperSets

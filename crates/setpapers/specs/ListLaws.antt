@@ -45,6 +45,7 @@ module _ (e : ℕ → ℕ) (n : ℕ) (c : PartialState) (fine : Fine c) (r : ris
       (cases-eq t m)))
       (cases-eq t 0)
 
+-- a list is a set
 pub list-laws : (w : ℕ) (bs : List ℕ) → rising w (stateAt bs) (states bs) ≡ true → Laws w (listHas bs) (listAnswer w bs)
 list-laws w bs r =
     laws-at w (listHas bs) (listSays (stateAt bs) (states bs))

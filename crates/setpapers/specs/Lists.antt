@@ -38,6 +38,7 @@ answerOf n m = cond (eqb n 0) Outside (cond (eqb n m) Inside Open)
 abbrev pub listSays : (ℕ → ℕ) → ℕ → PartialState → Answer
 listSays e n c = answerOf (tally (holdsState c) e n) (2 ^ freeCount c)
 
+-- the answer to any cube
 abbrev pub listAnswer : ℕ → List ℕ → PartialState → Answer
 listAnswer w bs c = atWidth w c (listSays (stateAt bs) (states bs) c)
 

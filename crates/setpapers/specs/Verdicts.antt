@@ -12,10 +12,12 @@ use Rattle.setpapers.specs.declared.fault.SetFault.{SetFault}
 use Rattle.setpapers.specs.declared.fault.SetFault.the-variants.{TooMany, BadEntry}
 use Rattle.setpapers.specs.Rows.{all, all-parts, first, next, verdict}
 
+-- a verdict that accepts
 abbrev accepts : Result (Unit {0}) SetFault → Type 0
 accepts (Ok x) = Unit {0}
 accepts (Err e) = ⊥
 
+-- two verdicts accept where both do
 next-parts : (r : Result (Unit {0}) SetFault) (b : Bool) (e : SetFault) → next r (cond b (Ok tt) (Err e)) ≡ Ok tt → (r ≡ Ok tt) × (b ≡ true)
 next-parts (Ok x) true e h = (refl, refl)
 next-parts (Ok x) false e h = absurd (subst accepts (sym h) tt)

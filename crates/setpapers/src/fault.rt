@@ -17,10 +17,10 @@ pub enum SetFault {
 }
 
 pub impl From<RecordFault> for SetFault as SetFaultFromRecord {
-    ghost converts = { λ fault made. made ≡ InRecord fault };
+    ghost converts = { λ cause fault. fault ≡ InRecord cause };
 
-    fn from(fault: RecordFault) -> SetFault {
-        SetFault::Record(fault)
+    fn from(cause: RecordFault) -> SetFault {
+        SetFault::Record(cause)
     }
 }
 

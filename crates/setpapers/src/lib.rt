@@ -4,4 +4,3 @@ pub mod entry;
 pub mod fault;
 pub mod formula;
 pub mod list;
-pub mod paper;

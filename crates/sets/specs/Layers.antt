@@ -18,11 +18,13 @@ laws-at w has a within holds = record {
   other = λ c n. cond-false (eqb (c .width) w) (a c) Outside (ne-eqb (c .width) w n);
 }
 
+-- what the complement claims
 not-claims : (w : ℕ) (has : ℕ → Bool) (c : PartialState) → c .width ≡ w → (a : Answer) → Claims a has c → Claims (answerNot a) (notHas w has) c
 not-claims w has c e Inside h = λ x i. and-right _ _ (not-from-true _ (h x i))
 not-claims w has c e Outside h = λ x i. and-from _ _ (lt-ltb x (2 ^ w) (subst (λ v. x < 2 ^ v) e (i .below))) (not-from-false _ (h x i))
 not-claims w has c e Open h = h
 
+-- a complement is a set
 pub complement-laws : {w : ℕ} {has : ℕ → Bool} {a : PartialState → Answer} → Laws w has a → Laws w (notHas w has) (notAnswer w a)
 complement-laws {w} {has} {a} l =
     laws-at w (notHas w has) (λ c. answerNot (a c)) (λ x h. ltb-true x (2 ^ w) (and-parts _ _ h .0)) (λ c f e. not-claims w has c e (a c) (l .holds c f e))

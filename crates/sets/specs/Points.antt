@@ -23,6 +23,7 @@ pointHas w s x = eqb x s && ltb x (2 ^ w)
 abbrev pub pointSays : ℕ → PartialState → Answer
 pointSays s c = cond (eqb (freeCount c) 0) (cond (eqb (c .value) s) Inside Outside) Open
 
+-- the answer to any cube
 abbrev pub pointAnswer : ℕ → ℕ → PartialState → Answer
 pointAnswer w s c = atWidth w c (pointSays s c)
 
@@ -47,6 +48,7 @@ only-state c fine f x i =
 pub total-free : (c : PartialState) → Total c → freeCount c ≡ 0
 total-free c t = omega (arith, ap ones t, ones-ones (c .width))
 
+-- what that answer claims holds
 point-claims : (w s : ℕ) (c : PartialState) → Fine c → c .width ≡ w → Claims (pointSays s c) (pointHas w s) c
 point-claims w s c fine e =
     let P : Answer → Type 0 = λ a. Claims a (pointHas w s) c in
@@ -63,5 +65,6 @@ point-claims w s c fine e =
     subst P (sym (cond-false (eqb (freeCount c) 0) (cond (eqb (c .value) s) Inside Outside) Open (ne-eqb _ _ f))) (λ t. f (total-free c t)))
     (cases-eq (freeCount c) 0)
 
+-- one state is a set
 pub point-laws : (w s : ℕ) → Laws w (pointHas w s) (pointAnswer w s)
 point-laws w s = laws-at w (pointHas w s) (pointSays s) (λ x h. ltb-true x (2 ^ w) (and-parts _ _ h .1)) (point-claims w s)

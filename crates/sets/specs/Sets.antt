@@ -25,11 +25,13 @@ pub record Laws (wide : ℕ) (has : ℕ → Bool) (answer : PartialState → Ans
 
 -- ---- three-valued logic of answers
 
+-- not
 abbrev pub answerNot : Answer → Answer
 answerNot Inside = Outside
 answerNot Outside = Inside
 answerNot Open = Open
 
+-- and
 abbrev pub answerAnd : Answer → Answer → Answer
 answerAnd Inside b = b
 answerAnd Outside b = Outside
@@ -37,6 +39,7 @@ answerAnd Open Inside = Open
 answerAnd Open Outside = Outside
 answerAnd Open Open = Open
 
+-- or
 abbrev pub answerOr : Answer → Answer → Answer
 answerOr Inside b = Inside
 answerOr Outside b = b
@@ -50,20 +53,26 @@ atWidth w c a = cond (eqb (c .width) w) a Outside
 
 -- ---- the layers over parts of the widths v and w: a second part of another width has no state of width v
 
+-- the states of width v that f has not
 abbrev pub notHas : ℕ → (ℕ → Bool) → ℕ → Bool
 notHas v f x = ltb x (2 ^ v) && not (f x)
 
+-- the states that both have
 abbrev pub bothHave : ℕ → (ℕ → Bool) → ℕ → (ℕ → Bool) → ℕ → Bool
 bothHave v f w g x = f x && (eqb v w && g x)
 
+-- the states that either has
 abbrev pub eitherHas : ℕ → (ℕ → Bool) → ℕ → (ℕ → Bool) → ℕ → Bool
 eitherHas v f w g x = f x || (eqb v w && g x)
 
+-- the answer of the complement
 abbrev pub notAnswer : ℕ → (PartialState → Answer) → PartialState → Answer
 notAnswer v a c = atWidth v c (answerNot (a c))
 
+-- the answer of the meeting
 abbrev pub bothAnswer : ℕ → (PartialState → Answer) → (PartialState → Answer) → PartialState → Answer
 bothAnswer v a b c = atWidth v c (answerAnd (a c) (b c))
 
+-- the answer of the joining
 abbrev pub eitherAnswer : ℕ → (PartialState → Answer) → (PartialState → Answer) → PartialState → Answer
 eitherAnswer v a b c = atWidth v c (answerOr (a c) (b c))

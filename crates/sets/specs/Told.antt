@@ -33,6 +33,7 @@ pub record Sound (w : ℕ) (p : (ℕ → Bool) → Bool) (a : (ℕ → Truth) �
   pub says : (ρ : ℕ → Truth) (s : ℕ → Bool) → Has ρ s → Says (a ρ) (p s)
   pub settles : (ρ : ℕ → Truth) → Settled w ρ → a ρ ≡ Open → ⊥
 
+-- in a total cube no variable is open
 total-settled : (w : ℕ) (c : PartialState) → c .width ≡ w → Total c → Settled w (truth c)
 total-settled w c e t =
     let full : c .known ≡ 2 ^ w - 1 = t ∙ ap (λ n. 2 ^ n - 1) e in

@@ -1,21 +1,21 @@
 //! Reading a set of a kind, and asking it.
 ghost use mathlib.Core.Path.{_≡_};
 ghost use Rattle.std.specs.Vec.{made};
 ghost use Rattle.setpapers.specs.Diagrams.{diagramIn};
 ghost use Rattle.setpapers.specs.FormulaSets.{formulaIn};
 ghost use Rattle.setpapers.specs.Lists.{listIn};
 ghost use Rattle.setpapers.specs.Papers.{answered};
-ghost use Rattle.setpapers.specs.PaperSets.{paperWide, paperHas, paperAnswer, paper-laws, outcome, IsList, IsDiagram, IsFormula};
+ghost use Rattle.mixedsets.specs.PaperSets.{paperWide, paperHas, paperAnswer, paper-laws, outcome, IsList, IsDiagram, IsFormula};
 use super::PaperSet;
 use super::SetPaper;
-use crate::diagram::DiagramSet;
-use crate::diagram::asking::DiagramStateSet;
-use crate::fault::SetFault;
-use crate::formula::FormulaSet;
-use crate::formula::asking::FormulaStateSet;
-use crate::list::ListSet;
-use crate::list::asking::ListStateSet;
 use logic::cube::Cube;
+use setpapers::diagram::DiagramSet;
+use setpapers::diagram::asking::DiagramStateSet;
+use setpapers::fault::SetFault;
+use setpapers::formula::FormulaSet;
+use setpapers::formula::asking::FormulaStateSet;
+use setpapers::list::ListSet;
+use setpapers::list::asking::ListStateSet;
 use sets::answer::Answer;
 use sets::set::StateSet;
 
