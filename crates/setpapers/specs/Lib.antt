@@ -15,3 +15,4 @@ pub mod FormulaLaws
 pub mod Claiming
 pub mod Keeping
 pub mod PaperSets
+pub mod LayeredSets

@@ -3,5 +3,6 @@ pub mod diagram;
 pub mod entry;
 pub mod fault;
 pub mod formula;
+pub mod layered;
 pub mod list;
 pub mod paper;
