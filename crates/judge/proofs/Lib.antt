@@ -4,3 +4,4 @@ pub mod Judged
 pub mod Plainly
 pub mod Plainest
 pub mod Completely
+pub mod Listed

@@ -4,3 +4,4 @@ pub mod Verdict
 pub mod Shown
 pub mod Plain
 pub mod Complete
+pub mod Lists

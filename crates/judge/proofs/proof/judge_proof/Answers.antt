@@ -7,12 +7,13 @@ use Rattle.sets.specs.Sets.{Laws}
 use Rattle.task.specs.Held.{model}
 use Rattle.task.proofs.Rules.{well-formed}
 use Rattle.trees.proofs.Covered.{proof-covers}
+use Rattle.judge.specs.Lists.{plainOf}
 use Rattle.judge.specs.Plain.{plainBody}
 use Rattle.judge.specs.Rules.{settles}
 use Rattle.judge.specs.Verdict.{treeCount}
 use Rattle.judge.proofs.Completely.{plain-accepted}
 use Rattle.judge.proofs.Judged.{paper-accepted, accepted-exactly}
-use Rattle.judge.proofs.Plainest.{plain-is-plain}
+use Rattle.judge.proofs.Listed.{list-accepted, list-plain}
 use Rattle.judge.proofs.Soundly.{proof-shows}
 use Rattle.judge.proofs.proof.judge_proof.Needs as need
 
@@ -38,5 +39,7 @@ returns g c =
       complete = λ none same reach empty held finds written.
           paper-accepted m ask narrow paper r (c .proof-verdict .ensures) (plainBody held (m .variables) (treeCount m)) written
           (plain-accepted m (well-formed t) has ask (subst (λ w. Laws w has ask) same laws) none reach empty narrow held finds);
-      plain = plain-is-plain has;
+      lists = λ none bs rises reach same written.
+          paper-accepted m ask narrow paper r (c .proof-verdict .ensures) (plainOf m bs) written (list-accepted m (well-formed t) narrow none bs rises reach ask same);
+      plain = list-plain;
     }
