@@ -2,25 +2,23 @@
 use mathlib.Core.Path.{_≡_}
 use mathlib.Core.Bool.{Bool, true, false}
 use mathlib.Core.List.{List}
-use mathlib.Core.Logic.{_↔_}
 use Prim.Native.Nat.{ℕ, _≤_}
-use lib.Dec.{ltb}
 use Rattle.std.specs.Orderings.{Decides}
 use Rattle.std.specs.declared.option.Option.{Option}
 use Rattle.std.specs.declared.option.Option.the-variants.{Some, None}
 use Rattle.std.specs.declared.result.Result.the-variants.{Ok}
 use Rattle.records.specs.declared.PaperKind.the-variants.{List as ListPaper, Proof as ProofPaper}
 use Rattle.records.specs.Papers.{Holds}
-use Rattle.logic.specs.Partial.{PartialState, holdsState}
-use Rattle.setpapers.specs.Count.{tally, rising}
+use Rattle.setpapers.specs.Count.{rising}
 use Rattle.setpapers.specs.Lists.{states, stateAt, listHas, listAnswer, listIn}
 use Rattle.costs.specs.Kind.{Kind}
 use Rattle.planning.specs.Model.{Model}
-use Rattle.planning.specs.Leads.{Reachable, Unsolvable}
+use Rattle.planning.specs.Leads.{Unsolvable}
 use Rattle.task.specs.Held.{model}
 use Rattle.plans.specs.Verdicts.{begin, run}
-use Rattle.judge.specs.Plain.{plainBody}
-use Rattle.judge.specs.Verdict.{proofVerdict, treeCount}
+use Rattle.judge.specs.Complete.{HasReachable}
+use Rattle.judge.specs.Lists.{plainOf}
+use Rattle.judge.specs.Verdict.{proofVerdict}
 use Rattle.card.specs.declared.card.Card.{Card}
 use Rattle.card.specs.declared.card.Walk.{Walk}
 use Rattle.card.specs.History.{History, Achieved, Disproved, walk, newest, AllRight}
@@ -29,16 +27,12 @@ use Rattle.card.specs.History.{History, Achieved, Disproved, walk, newest, All
 pub record ListsReachable (m : Model) (body : List ℕ) : Type 0 where
   pub ascending : rising (m .variables) (stateAt body) (states body) ≡ true
   pub few : states body ≤ 1024
-  pub reachable : (s : ℕ) → (listHas body s ≡ true) ↔ Reachable m s
-
--- the cube holds a listed state
-abbrev pub holdsListed : List ℕ → PartialState → Bool
-holdsListed body c = ltb 0 (tally (holdsState c) (stateAt body) (states body))
+  pub reachable : HasReachable m (listHas body)
 
 -- where no sequence leads to the goal, the list of all reachable states is read from its paper, and with the paper of its plain proof it is accepted
 abbrev pub Complete : Model → Type 0
 Complete m =
-    Unsolvable m → (body list proof : List ℕ) → ListsReachable m body → Holds ListPaper body list → Holds ProofPaper (plainBody (holdsListed body) (m .variables) (treeCount m)) proof
+    Unsolvable m → (body list proof : List ℕ) → ListsReachable m body → Holds ListPaper body list → Holds ProofPaper (plainOf m body) proof
     → (listIn (m .variables) list ≡ Ok body) × (proofVerdict m (listAnswer (m .variables) body) proof ≡ Ok tt)
 
 -- a cost stands exactly where one was achieved; it was achieved, and none that was achieved is less
