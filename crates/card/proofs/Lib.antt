@@ -1,2 +1,3 @@
 pub mod Laws
 pub mod Completeness
+pub mod Heard

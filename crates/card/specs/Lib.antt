@@ -1,3 +1,4 @@
 pub mod Cards
 pub mod History
 pub mod Law
+pub mod Desks
