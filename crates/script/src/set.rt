@@ -70,8 +70,8 @@ impl SetName {
 /// A set, and the words that follow it.
 type Parsed<'a, 'w> = (SetWords<'a>, &'w [&'a str]);
 
-/// No set has more layers inside each other.
-const DEEPEST: u16 = 1_000;
+/// The most levels of a set: 1,000 layers inside each other, and a paper.
+const DEEPEST: u16 = 1_001;
 
 /// How a set is written.
 const USAGE: &str =
@@ -86,7 +86,7 @@ impl<'a> SetWords<'a> {
         SetWords::within(heap, words, DEEPEST)
     }
 
-    /// The same, for a set with at most so many layers inside each other.
+    /// The same, for a set of at most so many levels.
     fn within<'w>(
         heap: Global,
         words: &'w [&'a str],
