@@ -4,7 +4,7 @@ use mathlib.Core.Bool.{Bool, true, false, not}
 use mathlib.Core.List.{List, [], _∷_}
 use mathlib.Core.Logic.{_⊎_}
 use Prim.Native.Nat.{ℕ}
-use denote.Ref.{now}
+use Rattle.std.specs.Of.Vec.{vec-items}
 use Rattle.std.specs.Options.{isSome}
 use Rattle.std.specs.declared.option.Option.{Option}
 use Rattle.logic.specs.Partial.{PartialState}
@@ -36,12 +36,12 @@ in-turn GiveUp w = isSome w
 
 -- the event is that call with that reply; ask says what each set answers
 abbrev pub Made : {C S : Type 0} → (S → PartialState → SetAnswer) → Call S → Reply C → Event C → Type 0
-Made ask (Plan p) (Judged a) e = e ≡ planned (now p) a
+Made ask (Plan p) (Judged a) e = e ≡ planned (vec-items p) a
 Made ask (Plan p) (Ruled a) e = ⊥
 Made ask (Plan p) Done e = ⊥
 Made ask (Plan p) OutOfTurn e = ⊥
 Made ask (Proof s p) (Judged a) e = ⊥
-Made ask (Proof s p) (Ruled a) e = e ≡ proved (ask (now s)) (now p) a
+Made ask (Proof s p) (Ruled a) e = e ≡ proved (ask s) (vec-items p) a
 Made ask (Proof s p) Done e = ⊥
 Made ask (Proof s p) OutOfTurn e = ⊥
 Made ask Begin (Judged a) e = ⊥

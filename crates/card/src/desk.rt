@@ -13,12 +13,12 @@ pub enum Desk<C> {
 }
 
 /// A call on a card, with its papers.
-#[derive_where(Clone, Copy)]
-pub enum Call<'a, S> {
+#[derive(Drop)]
+pub enum Call<S> {
     /// Lodges a plan.
-    Plan(&'a [u8]),
+    Plan(Vec<u8>),
     /// Lodges a proof over a set.
-    Proof(&'a S, &'a [u8]),
+    Proof(S, Vec<u8>),
     /// Begins a walk.
     Begin,
     /// Takes a step of the walk.

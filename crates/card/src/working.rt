@@ -17,7 +17,7 @@ use std::alloc::Global;
 
 impl<C: Cost> Desk<C> {
     /// Takes one call; one out of turn leaves everything as it was.
-    pub fn obey<S: StateSet>(self, call: &Call<'_, S>) -> (Desk<C>, Reply<C>)
+    pub fn obey<S: StateSet>(self, call: &Call<S>) -> (Desk<C>, Reply<C>)
         ensures { λ r. ⌜ ((m : Model) (h : History C) → Stands (C·Cost .kind) m h self → (g : History C) × Next (S·StateSet .answer) (now (call .entry)) (r .1) h g × Stands (C·Cost .kind) m g (r .0)) ⌝ }
     {
         match self {
@@ -27,7 +27,7 @@ impl<C: Cost> Desk<C> {
                     (Desk::Idle(card), Reply::Judged(answer))
                 }
                 Call::Proof(set, paper) => {
-                    let answer = card.lodge_proof(*set, paper);
+                    let answer = card.lodge_proof(set, paper);
                     (Desk::Idle(card), Reply::Ruled(answer))
                 }
                 Call::Begin => (Desk::Busy(card.begin()), Reply::Done),
@@ -55,7 +55,7 @@ impl<C: Cost> Desk<C> {
     pub fn work<S: StateSet>(
         self,
         heap: Global,
-        calls: &[Call<'_, S>],
+        calls: &[Call<S>],
     ) -> (Desk<C>, Result<Vec<Reply<C>>, AllocError>)
         ensures { λ r. ⌜ ((m : Model) (h : History C) → Stands (C·Cost .kind) m h self → Cases (r .1) (λ replies. Works (C·Cost .kind) (S·StateSet .answer) m (now (calls .entry)) (vec-items replies) h (r .0)) (λ _. r .0 ≡ self)) ⌝ }
     {

@@ -5,6 +5,7 @@ use mathlib.Core.List.{List}
 use Prim.Native.Nat.{ℕ}
 use Rattle.std.specs.declared.result.Result.{Result}
 use Rattle.std.specs.declared.result.Result.the-variants.{Ok, Err}
+use Rattle.std.specs.Of.Vec.{vec-items}
 use Rattle.records.specs.declared.PaperKind.the-variants.{List as ListPaper, Diagram as DiagramPaper, Formula as FormulaPaper}
 use Rattle.logic.specs.Partial.{PartialState}
 use Rattle.sets.specs.declared.answer.Answer.{Answer}
@@ -25,15 +26,15 @@ use Rattle.setpapers.specs.Papers.{kept}
 
 -- the bytes that a reader keeps of the paper
 abbrev pub listBytes : SetPaper → List ℕ
-listBytes p = kept (listIn (p .width) (p .paper .now))
+listBytes p = kept (listIn (p .width) (vec-items (p .paper)))
 
 -- those of a diagram
 abbrev pub diagramBytes : SetPaper → List ℕ
-diagramBytes p = kept (diagramIn (p .width) (p .paper .now))
+diagramBytes p = kept (diagramIn (p .width) (vec-items (p .paper)))
 
 -- those of a formula
 abbrev pub formulaBytes : SetPaper → List ℕ
-formulaBytes p = kept (formulaIn (p .width) (p .paper .now))
+formulaBytes p = kept (formulaIn (p .width) (vec-items (p .paper)))
 
 -- the width of a set
 abbrev pub paperWide : PaperSet → ℕ
@@ -55,10 +56,10 @@ paperAnswer (FormulaOf p) = formulaAnswer (p .width) (formulaBytes p)
 
 -- each is a set
 pub paper-laws : (s : PaperSet) → Laws (paperWide s) (paperHas s) (paperAnswer s)
-paper-laws (ListOf p) = list-laws (p .width) (listBytes p) (kept-pass ListPaper 0 (λ bs. rises (p .width) (stateAt bs)) states refl (p .paper .now))
+paper-laws (ListOf p) = list-laws (p .width) (listBytes p) (kept-pass ListPaper 0 (λ bs. rises (p .width) (stateAt bs)) states refl (vec-items (p .paper)))
 paper-laws (DiagramOf p) =
-    diagram-laws (p .width) (entryAt (diagramBytes p)) (entries (diagramBytes p)) (kept-pass DiagramPaper 1 (λ bs. lawful (p .width) (entryAt bs)) entries refl (p .paper .now))
-paper-laws (FormulaOf p) = formula-laws (p .width) (formulaBytes p) (kept-pass FormulaPaper 1 (lawful-at (p .width)) entries refl (p .paper .now))
+    diagram-laws (p .width) (entryAt (diagramBytes p)) (entries (diagramBytes p)) (kept-pass DiagramPaper 1 (λ bs. lawful (p .width) (entryAt bs)) entries refl (vec-items (p .paper)))
+paper-laws (FormulaOf p) = formula-laws (p .width) (formulaBytes p) (kept-pass FormulaPaper 1 (lawful-at (p .width)) entries refl (vec-items (p .paper)))
 
 -- the answer of a reader that returns the set
 abbrev pub outcome : Result PaperSet SetFault → Result (Unit {0}) SetFault
@@ -67,7 +68,7 @@ outcome (Err e) = Err e
 
 -- the paper and the width of a set
 abbrev pub Lies : ℕ → List ℕ → SetPaper → Type 0
-Lies w bs p = (p .width ≡ w) × (p .paper .now ≡ bs)
+Lies w bs p = (p .width ≡ w) × (vec-items (p .paper) ≡ bs)
 
 -- the set of one kind that lies in this paper
 abbrev pub IsList : ℕ → List ℕ → PaperSet → Type 0

@@ -3,16 +3,16 @@
 pub mod asking;
 
 /// A set paper, and the width that it is read at.
-#[derive(Clone, Copy)]
-pub struct SetPaper<'a> {
+#[derive(Drop)]
+pub struct SetPaper {
     pub width: u8,
-    pub paper: &'a [u8],
+    pub paper: Vec<u8>,
 }
 
-/// A set over its paper, of one kind or another; where the paper breaks a rule, it is the empty set.
-#[derive(Clone, Copy)]
-pub enum PaperSet<'a> {
-    List(SetPaper<'a>),
-    Diagram(SetPaper<'a>),
-    Formula(SetPaper<'a>),
+/// A set with its paper, of one kind or another; where the paper breaks a rule, it is the empty set.
+#[derive(Drop)]
+pub enum PaperSet {
+    List(SetPaper),
+    Diagram(SetPaper),
+    Formula(SetPaper),
 }

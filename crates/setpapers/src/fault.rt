@@ -4,6 +4,8 @@ ghost use Rattle.setpapers.specs.declared.fault.SetFault.the-variants.{Record 
 ghost use Rattle.setpapers.specs.Faults.{numberOf, layerOf, placeOf};
 use records::Layer;
 use records::RecordFault;
+use records::RecordFaultDisplay;
+use std::fmt;
 
 /// A set paper is one record, has at most 1,024 entries, and each keeps its kind's rules.
 #[derive(Clone, Copy)]
@@ -54,6 +56,19 @@ impl SetFault {
             SetFault::Record(fault) => fault.place(),
             SetFault::TooMany => 1024,
             SetFault::BadEntry { entry } => *entry,
+        }
+    }
+}
+
+pub impl fmt::Display for SetFault as SetFaultDisplay {
+    fn fmt<W: fmt::Write>(&self, f: &mut fmt::Formatter<W>) -> fmt::Result {
+        match self {
+            SetFault::Record(fault) => fault.fmt(f),
+            SetFault::TooMany => f.write_str("a set paper has at most 1,024 entries"),
+            SetFault::BadEntry { entry } => write!(
+                f,
+                "entry {entry} of the set paper breaks a rule of its kind, or is missing"
+            ),
         }
     }
 }

@@ -9,7 +9,7 @@ use sets::answer::Answer;
 use sets::set::StateSet;
 
 /// The width of the first paper.
-fn width_of<'a>(set: &LayeredSet<'a>) -> u8
+fn width_of(set: &LayeredSet) -> u8
     ensures { λ r. ⌜ r ≡ layeredWide (now (set .entry)) ⌝ }
 {
     match set {
@@ -21,7 +21,7 @@ fn width_of<'a>(set: &LayeredSet<'a>) -> u8
 }
 
 /// The answer to a cube: a layer's is made of its parts' by three-valued logic.
-fn answer_to<'a>(set: &LayeredSet<'a>, cube: &Cube) -> Answer
+fn answer_to(set: &LayeredSet, cube: &Cube) -> Answer
     ensures { λ r. ⌜ r ≡ layeredAnswer (now (set .entry)) (partial (now (cube .entry))) ⌝ }
 {
     if cube.width() != width_of(set) {
@@ -35,7 +35,7 @@ fn answer_to<'a>(set: &LayeredSet<'a>, cube: &Cube) -> Answer
     }
 }
 
-pub impl<'a> StateSet for LayeredSet<'a> as LayeredStateSet {
+pub impl StateSet for LayeredSet as LayeredStateSet {
     ghost wide = { layeredWide };
 
     ghost has = { layeredHas };

@@ -1,6 +1,7 @@
 //! Reading a set of a kind, and asking it.
 ghost use mathlib.Core.Path.{_≡_};
 ghost use Rattle.std.specs.Vec.{made};
+ghost use Rattle.std.specs.Of.Vec.{vec-items};
 ghost use Rattle.setpapers.specs.Diagrams.{diagramIn};
 ghost use Rattle.setpapers.specs.FormulaSets.{formulaIn};
 ghost use Rattle.setpapers.specs.Lists.{listIn};
@@ -19,36 +20,36 @@ use setpapers::list::asking::ListStateSet;
 use sets::answer::Answer;
 use sets::set::StateSet;
 
-impl<'a> PaperSet<'a> {
+impl PaperSet {
     /// The list that the paper holds.
-    pub fn list(width: u8, paper: &'a [u8]) -> Result<PaperSet<'a>, SetFault>
-        ensures answer { λ r. ⌜ outcome r ≡ answered (listIn width (now (paper .entry))) ⌝ }
-        ensures set { λ r. ⌜ made r (λ s. IsList width (now (paper .entry)) s) ⌝ }
+    pub fn list(width: u8, paper: Vec<u8>) -> Result<PaperSet, SetFault>
+        ensures answer { λ r. ⌜ outcome r ≡ answered (listIn width (vec-items paper)) ⌝ }
+        ensures set { λ r. ⌜ made r (λ s. IsList width (vec-items paper) s) ⌝ }
     {
-        ListSet::empty(width).read(width, paper)?;
+        ListSet::empty(width).read(width, &paper)?;
         Ok(PaperSet::List(SetPaper { width, paper }))
     }
 
     /// The diagram that the paper holds.
-    pub fn diagram(width: u8, paper: &'a [u8]) -> Result<PaperSet<'a>, SetFault>
-        ensures answer { λ r. ⌜ outcome r ≡ answered (diagramIn width (now (paper .entry))) ⌝ }
-        ensures set { λ r. ⌜ made r (λ s. IsDiagram width (now (paper .entry)) s) ⌝ }
+    pub fn diagram(width: u8, paper: Vec<u8>) -> Result<PaperSet, SetFault>
+        ensures answer { λ r. ⌜ outcome r ≡ answered (diagramIn width (vec-items paper)) ⌝ }
+        ensures set { λ r. ⌜ made r (λ s. IsDiagram width (vec-items paper) s) ⌝ }
     {
-        DiagramSet::empty(width).read(width, paper)?;
+        DiagramSet::empty(width).read(width, &paper)?;
         Ok(PaperSet::Diagram(SetPaper { width, paper }))
     }
 
     /// The formula that the paper holds.
-    pub fn formula(width: u8, paper: &'a [u8]) -> Result<PaperSet<'a>, SetFault>
-        ensures answer { λ r. ⌜ outcome r ≡ answered (formulaIn width (now (paper .entry))) ⌝ }
-        ensures set { λ r. ⌜ made r (λ s. IsFormula width (now (paper .entry)) s) ⌝ }
+    pub fn formula(width: u8, paper: Vec<u8>) -> Result<PaperSet, SetFault>
+        ensures answer { λ r. ⌜ outcome r ≡ answered (formulaIn width (vec-items paper)) ⌝ }
+        ensures set { λ r. ⌜ made r (λ s. IsFormula width (vec-items paper) s) ⌝ }
     {
-        FormulaSet::empty(width).read(width, paper)?;
+        FormulaSet::empty(width).read(width, &paper)?;
         Ok(PaperSet::Formula(SetPaper { width, paper }))
     }
 }
 
-pub impl<'a> StateSet for PaperSet<'a> as PaperStateSet {
+pub impl StateSet for PaperSet as PaperStateSet {
     ghost wide = { paperWide };
 
     ghost has = { paperHas };
@@ -69,17 +70,17 @@ pub impl<'a> StateSet for PaperSet<'a> as PaperStateSet {
         match self {
             PaperSet::List(lies) => {
                 let mut set = ListSet::empty(lies.width);
-                let _ = set.read(lies.width, lies.paper);
+                let _ = set.read(lies.width, &lies.paper);
                 set.ask(cube)
             }
             PaperSet::Diagram(lies) => {
                 let mut set = DiagramSet::empty(lies.width);
-                let _ = set.read(lies.width, lies.paper);
+                let _ = set.read(lies.width, &lies.paper);
                 set.ask(cube)
             }
             PaperSet::Formula(lies) => {
                 let mut set = FormulaSet::empty(lies.width);
-                let _ = set.read(lies.width, lies.paper);
+                let _ = set.read(lies.width, &lies.paper);
                 set.ask(cube)
             }
         }
