@@ -2,5 +2,6 @@
 pub mod card;
 pub mod desk;
 pub mod lodging;
+pub mod showing;
 pub mod walking;
 pub mod working;

@@ -1,4 +1,4 @@
-//! Opening a card, lodging plans and proofs upon it, beginning a walk, and what a card shows.
+//! Opening a card, lodging plans and proofs upon it, and beginning a walk.
 ghost use mathlib.Core.Path.{_≡_};
 ghost use mathlib.Core.List.{[], _∷_};
 ghost use Rattle.planning.specs.Model.{Model};
@@ -106,33 +106,5 @@ impl<C: Cost> Card<C> {
                 cost: C::zero(),
             },
         }
-    }
-
-    /// The task that the card is about.
-    pub fn task(&self) -> &Task
-        ensures { λ r. ⌜ now r ≡ now (self .entry) .task ⌝ }
-    {
-        &self.task
-    }
-
-    /// The least accepted cost, if a plan or a walk was accepted.
-    pub fn cost(&self) -> Option<C>
-        ensures { λ r. ⌜ r ≡ now (self .entry) .cost ⌝ }
-    {
-        self.cost
-    }
-
-    /// Whether a proof was accepted that no plan exists.
-    pub fn impossible(&self) -> bool
-        ensures { λ r. ⌜ r ≡ now (self .entry) .impossible ⌝ }
-    {
-        self.impossible
-    }
-
-    /// The latest verdict, if there is one.
-    pub fn latest(&self) -> Option<Verdict<C>>
-        ensures { λ r. ⌜ r ≡ now (self .entry) .verdict ⌝ }
-    {
-        self.verdict
     }
 }

@@ -4,7 +4,7 @@ ghost use mathlib.Core.Bool.{false};
 ghost use mathlib.Core.List.{List, [], _∷_};
 ghost use Prim.Native.Nat.{ℕ, _<_, _≤_};
 ghost use Rattle.formulas.specs.Names.{Each, children};
-ghost use Rattle.formulas.specs.Marks.{Marks, Claimed};
+ghost use Rattle.formulas.specs.Marks.{Marks, Claimed, marked};
 use crate::node::Node;
 
 /// A mark for each node that has been named.
@@ -27,6 +27,7 @@ impl Names {
     pub fn claim(&mut self, number: u16) -> bool
         ensures named { λ r. ⌜ ((ns : List ℕ) → number < 1024 → Marks (now (self .entry) .marks) ns → Claimed (now (self .exit) .marks) (number ∷ []) r ns) ⌝ }
         ensures beyond { λ r. ⌜ (1024 ≤ number → r ≡ false) ⌝ }
+        ensures marks { λ _. ⌜ now (self .exit) .marks ≡ marked (now (self .entry) .marks) number ⌝ }
     {
         let number = number as usize;
         if number >= 1024 {

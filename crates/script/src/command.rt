@@ -3,6 +3,7 @@ ghost use Rattle.std.specs.Vec.{made};
 ghost use Rattle.script.specs.Names.{Names, verbName, Calls};
 use crate::fault::ScriptFault;
 use crate::fault::ScriptFaultFromAlloc;
+use crate::fault::ScriptFaultFromRefused;
 use crate::kind::KindWords;
 use crate::paper::PaperWord;
 use crate::set::SetWords;
@@ -113,13 +114,43 @@ impl Command<'_> {
     }
 }
 
-/// The words of a line, without its comment.
+/// The words of a text without blanks but line feeds, after those that are there already.
+fn at_feeds<'a>(text: &'a str, words: &mut Vec<&'a str>) -> Result<(), ScriptFault<'a>> {
+    for part in text.split('\n') {
+        if !part.is_empty() {
+            words.push(part)?;
+        }
+    }
+    Ok(())
+}
+
+/// The same, for a text with carriage returns too.
+fn at_returns<'a>(text: &'a str, words: &mut Vec<&'a str>) -> Result<(), ScriptFault<'a>> {
+    for part in text.split('\r') {
+        at_feeds(part, words)?;
+    }
+    Ok(())
+}
+
+/// The same, for a text with tabs too.
+fn at_tabs<'a>(text: &'a str, words: &mut Vec<&'a str>) -> Result<(), ScriptFault<'a>> {
+    for part in text.split('\t') {
+        at_returns(part, words)?;
+    }
+    Ok(())
+}
+
+/// The words of a line, without its comment: they are parted by spaces, tabs and carriage returns.
 fn words(heap: Global, line: &str) -> Result<Vec<&str>, ScriptFault<'_>> {
     let text = match line.split_once('#') {
         Some((text, _)) => text,
         None => line,
     };
-    Ok(text.split_whitespace().collect(heap)?)
+    let mut words = Vec::new(heap);
+    for part in text.split(' ') {
+        at_tabs(part, &mut words)?;
+    }
+    Ok(words)
 }
 
 /// An operator number: decimal digits, and no sign.

@@ -21,7 +21,7 @@ pub struct Operator {
 }
 
 /// How many variables there are, and the state at the start.
-pub fn header_in(body: &[u8], at: usize) -> Result<Header, RecordFault>
+pub(crate) fn header_in(body: &[u8], at: usize) -> Result<Header, RecordFault>
     ensures { λ r. ⌜ r ≡ headerIn at (now (body .entry)) ⌝ }
 {
     let [n, s0, s1, s2, s3, s4, s5, s6, s7] = body else {
@@ -32,7 +32,7 @@ pub fn header_in(body: &[u8], at: usize) -> Result<Header, RecordFault>
 }
 
 /// The node that a body writes, or none where its tag or an unused operand is wrong.
-pub fn node_in(body: &[u8], at: usize) -> Result<Option<Node>, RecordFault>
+pub(crate) fn node_in(body: &[u8], at: usize) -> Result<Option<Node>, RecordFault>
     ensures { λ r. ⌜ r ≡ writtenIn at (now (body .entry)) ⌝ }
 {
     let [tag, a0, a1, b0, b1] = body else {
@@ -44,7 +44,7 @@ pub fn node_in(body: &[u8], at: usize) -> Result<Option<Node>, RecordFault>
 }
 
 /// An operator; costs that are left out are 1.
-pub fn operator_in(body: &[u8], at: usize) -> Result<Operator, RecordFault>
+pub(crate) fn operator_in(body: &[u8], at: usize) -> Result<Operator, RecordFault>
     ensures { λ r. ⌜ r ≡ operatorIn at (now (body .entry)) ⌝ }
 {
     match body {
@@ -65,7 +65,7 @@ pub fn operator_in(body: &[u8], at: usize) -> Result<Operator, RecordFault>
 }
 
 /// The number of the goal's node.
-pub fn number_in(body: &[u8], at: usize) -> Result<u16, RecordFault>
+pub(crate) fn number_in(body: &[u8], at: usize) -> Result<u16, RecordFault>
     ensures { λ r. ⌜ r ≡ numberIn at (now (body .entry)) ⌝ }
 {
     let [g0, g1] = body else {

@@ -2,5 +2,5 @@
 pub mod entries;
 pub mod faults;
 pub mod place;
-pub mod stage;
+mod stage;
 pub mod stepping;

@@ -34,7 +34,7 @@ impl Stage {
 }
 
 /// The first pass: the paper is whole records, in order.
-pub fn check_records(paper: &[u8]) -> Result<(), RecordFault>
+pub(crate) fn check_records(paper: &[u8]) -> Result<(), RecordFault>
     ensures { λ r. ⌜ r ≡ recordsIn (now (paper .entry)) ⌝ }
 {
     if paper.len() > 65_536 {

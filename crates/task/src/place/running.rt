@@ -51,7 +51,8 @@ impl Task {
     pub fn node_count(&self) -> usize
         ensures { λ r. ⌜ r ≡ length (nodesOf (now (self .entry))) ⌝ }
     {
-        self.nodes.len()
+        let nodes: &[Node] = &self.nodes;
+        nodes.len()
     }
 
     /// How many operators there are. Every task keeps the rules, and its planning task is well formed.
