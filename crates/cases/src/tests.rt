@@ -82,15 +82,22 @@ fn list_answer(paper: &[u8]) -> (u8, usize) {
     }
 }
 
-/// The number that a paper of zeros as a proof's body earns; 0 if it is one record.
-fn length_answer(heap: Global, size: usize) -> Result<u8, Fail> {
+/// The paper of one record of this kind, whose body is so many of this entry.
+fn paper_of(heap: Global, kind: u8, entry: &[u8], count: u32) -> Result<Vec<u8>, Fail> {
     let mut body = Vec::new(heap);
-    body.resize(size, 0)?;
+    for _ in 0..count {
+        body.extend_from_slice(entry)?;
+    }
     let mut paper = Vec::new(heap);
-    add(&mut paper, 9, &body)?;
-    match single(&paper, PaperKind::Proof) {
-        Ok(_) => Ok(0),
-        Err(fault) => Ok(fault.number()),
+    add(&mut paper, kind, &body)?;
+    Ok(paper)
+}
+
+/// The number that a paper as a proof's one record earns; 0 if it is such a record.
+fn record_answer(paper: &[u8]) -> u8 {
+    match single(paper, PaperKind::Proof) {
+        Ok(_) => 0,
+        Err(fault) => fault.number(),
     }
 }
 
@@ -127,17 +134,14 @@ fn limits_of_plans(rt: LibcRuntime) -> Result<(), Fail> {
     )?;
     check_eq(plan_answer(&task, &[2, 0, 0, 0, 5, 0, 0, 0]), (0, 1))?;
     check_eq(plan_answer(&task, &[4, 0, 0, 0, 5, 0, 0, 0, 1, 0]), (12, 1))?;
-    let mut body = Vec::new(heap);
-    for _ in 0..4096 {
-        body.extend_from_slice(&[1, 0])?;
-    }
-    let mut plan = Vec::new(heap);
-    add(&mut plan, 5, &body)?;
-    check_eq(plan_answer(&task, &plan), (0, 4096))?;
-    body.extend_from_slice(&[1, 0])?;
-    let mut longer = Vec::new(heap);
-    add(&mut longer, 5, &body)?;
-    check_eq(plan_answer(&task, &longer), (9, 4096))
+    check_eq(
+        plan_answer(&task, &paper_of(heap, 5, &[1, 0], 4096)?),
+        (0, 4096),
+    )?;
+    check_eq(
+        plan_answer(&task, &paper_of(heap, 5, &[1, 0], 4097)?),
+        (9, 4096),
+    )
 }
 
 #[test]
@@ -145,6 +149,6 @@ fn limits_of_lists_and_papers(rt: LibcRuntime) -> Result<(), Fail> {
     let heap = rt.alloc();
     check_eq(list_answer(&list_paper(heap, 1024)?), (0, 0))?;
     check_eq(list_answer(&list_paper(heap, 1025)?), (14, 1024))?;
-    check_eq(length_answer(heap, 65_530)?, 0)?;
-    check_eq(length_answer(heap, 65_531)?, 1)
+    check_eq(record_answer(&paper_of(heap, 9, &[0], 65_530)?), 0)?;
+    check_eq(record_answer(&paper_of(heap, 9, &[0], 65_531)?), 1)
 }
