@@ -1,10 +1,14 @@
 //! Opening a card, lodging plans and proofs upon it, and beginning a walk.
 ghost use mathlib.Core.Path.{_≡_};
 ghost use mathlib.Core.List.{[], _∷_};
+ghost use mathlib.Core.Logic.{_↔_};
+ghost use Rattle.std.specs.declared.result.Result.the-variants.{Ok};
 ghost use Rattle.planning.specs.Model.{Model};
 ghost use Rattle.task.specs.Held.{model};
 ghost use Rattle.plans.specs.Verdicts.{planVerdict};
-ghost use Rattle.judge.specs.Verdict.{proofVerdict};
+ghost use Rattle.plans.specs.Achieves.{Exact};
+ghost use Rattle.judge.specs.Shown.{Shows};
+ghost use Rattle.judge.specs.Verdict.{proofVerdict, Accepted};
 ghost use Rattle.card.specs.Cards.{opened, better, noted, ruled, setOut};
 ghost use Rattle.card.specs.History.{History, planned, proved, begun};
 ghost use Rattle.card.specs.Law.{Keeps, Walks};
@@ -70,8 +74,9 @@ impl<C: Cost> Card<C> {
         }
     }
 
-    /// Lodges a plan.
+    /// Lodges a plan: accepted exactly when it leads from the start to the goal, at a cost that its kind can hold.
     pub fn lodge_plan(&mut self, paper: &[u8]) -> Result<Reached<C>, PlanFault>
+        ensures exact { λ r. ⌜ Exact (C·Cost .kind) (model (now (self .entry) .task)) (now (paper .entry)) r ⌝ }
         ensures answer { λ r. ⌜ r ≡ planVerdict (C·Cost .kind) (model (now (self .entry) .task)) (now (paper .entry)) ⌝ }
         ensures after { λ r. ⌜ now (self .exit) ≡ noted (C·Cost .kind) (now (self .entry)) r ⌝ }
         ensures law { λ r. ⌜ ((m : Model) (h : History C) → Keeps (C·Cost .kind) m h (now (self .entry)) → Keeps (C·Cost .kind) m (planned (now (paper .entry)) r ∷ h) (now (self .exit))) ⌝ }
@@ -81,8 +86,11 @@ impl<C: Cost> Card<C> {
         answer
     }
 
-    /// Lodges a proof over a set.
+    /// Lodges a proof over a set: accepted exactly when the set holds the start and the body is lawful trees;
+    /// then no sequence of operators, of whatever length, leads from the start to the goal.
     pub fn lodge_proof<S: StateSet>(&mut self, set: &S, paper: &[u8]) -> Result<(), ProofFault>
+        ensures exact { λ r. ⌜ (r ≡ Ok tt) ↔ Accepted (model (now (self .entry) .task)) (S·StateSet .answer (now (set .entry))) (now (paper .entry)) ⌝ }
+        ensures sound { λ r. ⌜ (r ≡ Ok tt → Shows (model (now (self .entry) .task)) (S·StateSet .has (now (set .entry)))) ⌝ }
         ensures answer { λ r. ⌜ r ≡ proofVerdict (model (now (self .entry) .task)) (S·StateSet .answer (now (set .entry))) (now (paper .entry)) ⌝ }
         ensures after { λ r. ⌜ now (self .exit) ≡ ruled (now (self .entry)) r ⌝ }
         ensures law { λ r. ⌜ ((m : Model) (h : History C) → Keeps (C·Cost .kind) m h (now (self .entry)) → Keeps (C·Cost .kind) m (proved (S·StateSet .answer (now (set .entry))) (now (paper .entry)) r ∷ h) (now (self .exit))) ⌝ }

@@ -16,18 +16,6 @@ use Rattle.setpapers.specs.Count.{tally}
 use Rattle.setpapers.specs.Counted.{tally-bound}
 use Rattle.setpapers.specs.Lists.{states, stateAt, listSays, listAnswer}
 
--- no digit from w up is set
-pub shifted-out : (x w : ℕ) → eqb (x / 2 ^ w) 0 ≡ ltb x (2 ^ w)
-shifted-out x w =
-    ⊎-elim
-    (λ (l : x < 2 ^ w).
-    let q : x / 2 ^ w < 1 = div-lt-iff-lt-mul (pow-pos w) .1 (subst (λ m. x < m) (sym (one-mul (2 ^ w))) l) in
-    eq-eqb _ _ (omega arith) ∙ sym (lt-ltb x (2 ^ w) l))
-    (λ (h : 2 ^ w ≤ x).
-    ne-eqb _ _ (λ e. let b : x / 2 ^ w < 1 = omega arith in let l = subst (λ m. x < m) (one-mul (2 ^ w)) (div-lt-iff-lt-mul (pow-pos w) .0 b) in absurd (omega arith))
-    ∙ sym (le-ltb x (2 ^ w) h))
-    (cases-lt x (2 ^ w))
-
 -- some of the cube's states are listed, and not all
 pub open-said : (w : ℕ) (bs : List ℕ) (c : PartialState) → c .width ≡ w → (tally (holdsState c) (stateAt bs) (states bs) ≡ 0 → ⊥) → (tally (holdsState c) (stateAt bs) (states bs) ≡ 2 ^ freeCount c → ⊥) → Open ≡ listAnswer w bs c
 open-said w bs c e some full =

@@ -15,7 +15,8 @@ use Rattle.std.specs.declared.result.Result.the-variants.{Ok, Err}
 use Rattle.trees.specs.declared.fault.TreeFault.{TreeFault}
 use Rattle.trees.specs.declared.fault.TreeFault.the-variants.{Trailing}
 use Rattle.logic.specs.Partial.{PartialState, Fine, isFree, freeCount, lower, upper}
-use Rattle.trees.specs.Check.{andThen, halvesAt, treeAt, treesFrom, bodyVerdict}
+use Rattle.records.specs.Single.{andThen}
+use Rattle.trees.specs.Check.{halvesAt, treeAt, treesFrom, bodyVerdict}
 use Rattle.trees.specs.Tree.{Tree, leaf, split, preorder, Lawful, LawfulEach, Proves}
 use Rattle.logic.proofs.Halves.{below, fine-lower, fine-upper}
 use Rattle.trees.proofs.Steps.{tree-leaf, tree-split}

@@ -12,7 +12,8 @@ use Rattle.std.specs.declared.result.Result.the-variants.{Ok, Err}
 use Rattle.logic.specs.Partial.{PartialState, freeCount}
 use Rattle.trees.specs.declared.fault.TreeFault.{TreeFault}
 use Rattle.trees.specs.declared.fault.TreeFault.the-variants.{Trailing}
-use Rattle.trees.specs.Check.{andThen, treeAt, treesFrom}
+use Rattle.records.specs.Single.{andThen}
+use Rattle.trees.specs.Check.{treeAt, treesFrom}
 
 module _ (settles : ℕ → PartialState → Bool) (body : List ℕ) (c : PartialState) (count rule at : ℕ) (whole : Result (Unit {0}) TreeFault) (inv : treesFrom settles body c (count - rule) rule at ≡ whole) where
   module _ (h : rule < count) where

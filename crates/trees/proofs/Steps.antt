@@ -11,7 +11,8 @@ use Rattle.std.specs.declared.result.Result.the-variants.{Ok, Err}
 use Rattle.trees.specs.declared.fault.TreeFault.{TreeFault}
 use Rattle.trees.specs.declared.fault.TreeFault.the-variants.{BadByte, Unsettled}
 use Rattle.logic.specs.Partial.{PartialState, Fine, isFree, freeCount, lower, upper}
-use Rattle.trees.specs.Check.{andThen, nodeAt, halvesAt, treeAt}
+use Rattle.records.specs.Single.{andThen}
+use Rattle.trees.specs.Check.{nodeAt, halvesAt, treeAt}
 use Rattle.logic.proofs.Halves.{fewer}
 
 module _ (settled : PartialState → Bool) (body : List ℕ) (at : ℕ) (c : PartialState) where

@@ -6,14 +6,10 @@ use lib.Dec.{ltb, eqb}
 use lib.ListN.{length, getD}
 use Rattle.std.specs.declared.result.Result.{Result}
 use Rattle.std.specs.declared.result.Result.the-variants.{Ok, Err}
+use Rattle.records.specs.Single.{andThen}
 use Rattle.logic.specs.Partial.{PartialState, isFree, lower, upper, freeCount}
 use Rattle.trees.specs.declared.fault.TreeFault.{TreeFault}
 use Rattle.trees.specs.declared.fault.TreeFault.the-variants.{BadByte, Unsettled, Trailing}
-
--- go on with what an Ok holds
-abbrev pub andThen : {X Y E : Type 0} → Result X E → (X → Result Y E) → Result Y E
-andThen (Ok x) f = f x
-andThen (Err e) f = Err e
 
 -- what the byte at `at` says: the end of the bytes, a leaf, a split by `halves`, or nothing
 abbrev pub nodeAt : (PartialState → Bool) → List ℕ → ℕ → PartialState → Result ℕ TreeFault → Result ℕ TreeFault

@@ -13,15 +13,9 @@ use super::ListSet;
 use super::asking::state;
 use crate::fault::SetFault;
 use crate::fault::SetFaultFromRecord;
+use logic::state::is_state;
 use records::PaperKind;
 use records::single;
-
-/// Whether the word has no bit from the width up.
-fn fits(width: u8, word: u64) -> bool
-    ensures { λ r. ⌜ r ≡ ltb word (2 ^ width) ⌝ }
-{
-    width >= 64 || word >> width == 0
-}
 
 /// Whether the entry `i` is a state of the width, above the one before it.
 fn is_lawful(width: u8, body: &[u8], i: usize) -> bool
@@ -29,7 +23,7 @@ fn is_lawful(width: u8, body: &[u8], i: usize) -> bool
     ensures { λ r. ⌜ r ≡ rises width (stateAt (now (body .entry))) i ⌝ }
 {
     let entry = state(body, i);
-    fits(width, entry) && (i == 0 || state(body, i - 1) < entry)
+    is_state(width, entry) && (i == 0 || state(body, i - 1) < entry)
 }
 
 /// Whether the bytes list states of the width, and if not why.

@@ -1,8 +1,6 @@
 //! Reading a task from its paper.
 ghost use mathlib.Core.Path.{_≡_};
 ghost use mathlib.Core.List.{[]};
-ghost use Prim.Native.Nat.{_^_};
-ghost use lib.Dec.{ltb};
 ghost use Rattle.std.specs.Vec.{made};
 ghost use Rattle.formulas.specs.Marks.{Marks};
 ghost use Rattle.task.specs.Values.{blank, names};
@@ -27,6 +25,7 @@ use formulas::node::Node;
 use formulas::rules::is_effect;
 use formulas::rules::is_formula;
 use formulas::rules::may_follow;
+use logic::state::is_state;
 use records::RecordFault;
 use records::cut_record;
 use std::alloc::AllocError;
@@ -36,16 +35,6 @@ use std::alloc::Global;
 const NODES: usize = 1024;
 
 const OPERATORS: usize = 128;
-
-/// Whether the word is a state of `n` variables.
-fn is_state(n: u8, word: u64) -> bool
-    ensures { λ r. ⌜ r ≡ ltb word (2 ^ n) ⌝ }
-{
-    if n >= 64 {
-        return true;
-    }
-    word >> n == 0
-}
 
 impl Task {
     /// The blank task: no variables, no operators, and a goal that is false. It has room for any other.

@@ -5,4 +5,4 @@ pub returns : need.returns
 returns g c =
     let answer = c .judge-plan-answer .ensures .verdict in
     let after = c .note .ensures in
-    record { answer = answer; after = after; law = keeps-plan (g .C·Cost .ordered) (c .args .self .now) _ (c .args .paper .now) _ answer after }
+    record { exact = c .judge-plan-answer .ensures .exact; answer = answer; after = after; law = keeps-plan (g .C·Cost .ordered) (c .args .self .now) _ (c .args .paper .now) _ answer after }

@@ -7,6 +7,8 @@ returns g c =
     let judged = c .judge-proof-answer .ensures in
     let after = c .rule .ensures in
     record {
+      exact = judged .exact;
+      sound = judged .sound;
       answer = judged .verdict;
       after = after;
       law = keeps-proof (g .C·Cost .ordered) (c .args .self .now) _ set (c .args .paper .now) _ (judged .verdict) (λ ok. judged .sound ok .unsolvable) after;
