@@ -13,7 +13,7 @@ pub struct Lines<R> {
 
 impl<R: BufRead> Lines<R> {
     /// The next line, if there is one.
-    pub fn next(&mut self, heap: Global) -> Result<Option<String>, Stop> {
+    pub(crate) fn next(&mut self, heap: Global) -> Result<Option<String>, Stop> {
         let mut line = String::new(heap);
         self.count = self.count.saturating_add(1);
         if self.reader.read_line(&mut line)? == 0 {

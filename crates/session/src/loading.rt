@@ -25,7 +25,7 @@ fn load_file(rt: &LibcRuntime, path: &str) -> Result<Vec<u8>, Stop> {
 }
 
 /// The bytes of a paper.
-pub fn load(rt: &LibcRuntime, word: PaperWord<'_>) -> Result<Vec<u8>, Stop> {
+pub(crate) fn load(rt: &LibcRuntime, word: PaperWord<'_>) -> Result<Vec<u8>, Stop> {
     match word {
         PaperWord::Bytes(bytes) => Ok(bytes),
         PaperWord::Path(path) => load_file(rt, path),
@@ -42,24 +42,24 @@ fn load_part(rt: &LibcRuntime, word: &PaperWord<'_>) -> Result<Vec<u8>, Stop> {
 
 /// Why a set cannot be made.
 #[derive(Drop)]
-pub enum Unmade {
+pub(crate) enum Unmade {
     Refused(SetFault),
     Stopped(Stop),
 }
 
-pub impl From<SetFault> for Unmade as UnmadeFromFault {
+pub(crate) impl From<SetFault> for Unmade as UnmadeFromFault {
     fn from(fault: SetFault) -> Self {
         Unmade::Refused(fault)
     }
 }
 
-pub impl<T: Drop> From<Refused<T>> for Unmade as UnmadeFromRefused {
+pub(crate) impl<T: Drop> From<Refused<T>> for Unmade as UnmadeFromRefused {
     fn from(_refused: Refused<T>) -> Self {
         Unmade::Stopped(Stop::NoMemory)
     }
 }
 
-pub impl From<Stop> for Unmade as UnmadeFromStop {
+pub(crate) impl From<Stop> for Unmade as UnmadeFromStop {
     fn from(stop: Stop) -> Self {
         Unmade::Stopped(stop)
     }
@@ -76,7 +76,7 @@ fn paper_set(sort: SetPaper, width: u8, paper: Vec<u8>) -> Result<PaperSet, SetF
 
 /// The set of a line, its papers read at a width; the first paper that is refused, from left to right, decides.
 /// It has at most so many layers inside each other.
-pub fn load_set(
+pub(crate) fn load_set(
     rt: &LibcRuntime,
     width: u8,
     set: &SetWords<'_>,

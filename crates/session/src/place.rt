@@ -7,14 +7,14 @@ use task::place::Task;
 
 /// The task that was read last, or the blank one, and the paper that it was read from.
 #[derive(Drop)]
-pub struct Place {
+pub(crate) struct Place {
     pub task: Task,
     pub paper: Vec<u8>,
 }
 
 impl Place {
     /// The blank task.
-    pub fn new(rt: &LibcRuntime) -> Result<Place, Stop> {
+    pub(crate) fn new(rt: &LibcRuntime) -> Result<Place, Stop> {
         Ok(Place {
             task: Task::new(rt.alloc())?,
             paper: Vec::new(rt.alloc()),
@@ -22,7 +22,7 @@ impl Place {
     }
 
     /// Reads a task into the place, and prints what came of it.
-    pub fn read(&mut self, rt: &LibcRuntime, paper: Vec<u8>) -> Result<(), Stop> {
+    pub(crate) fn read(&mut self, rt: &LibcRuntime, paper: Vec<u8>) -> Result<(), Stop> {
         let answer = self.task.read(&paper);
         self.paper = paper;
         match answer {
@@ -42,7 +42,7 @@ impl Place {
     }
 
     /// A copy of the task for a card of its own: the same paper read again.
-    pub fn copy(&self, rt: &LibcRuntime) -> Result<Task, Stop> {
+    pub(crate) fn copy(&self, rt: &LibcRuntime) -> Result<Task, Stop> {
         let mut task = Task::new(rt.alloc())?;
         let _ = task.read(&self.paper);
         Ok(task)

@@ -17,7 +17,7 @@ use task::faults::TaskFault;
 use task::faults::TaskFaultDisplay;
 
 /// A refused task.
-pub fn print_task_fault(rt: &LibcRuntime, fault: &TaskFault) -> Result<(), Stop> {
+pub(crate) fn print_task_fault(rt: &LibcRuntime, fault: &TaskFault) -> Result<(), Stop> {
     let number = fault.number();
     let layer = fault.layer();
     let place = fault.place();
@@ -29,7 +29,7 @@ pub fn print_task_fault(rt: &LibcRuntime, fault: &TaskFault) -> Result<(), Stop>
 }
 
 /// A refused set.
-pub fn print_set_fault(rt: &LibcRuntime, fault: &SetFault) -> Result<(), Stop> {
+pub(crate) fn print_set_fault(rt: &LibcRuntime, fault: &SetFault) -> Result<(), Stop> {
     let number = fault.number();
     let layer = fault.layer();
     let place = fault.place();
@@ -41,7 +41,7 @@ pub fn print_set_fault(rt: &LibcRuntime, fault: &SetFault) -> Result<(), Stop> {
 }
 
 /// A judged plan, step or finish.
-pub fn print_judged<C: Cost + Display>(
+pub(crate) fn print_judged<C: Cost + Display>(
     rt: &LibcRuntime,
     what: &str,
     answer: &Result<Reached<C>, PlanFault>,
@@ -70,7 +70,7 @@ pub fn print_judged<C: Cost + Display>(
 }
 
 /// A judged proof.
-pub fn print_ruled(rt: &LibcRuntime, answer: &Result<(), ProofFault>) -> Result<(), Stop> {
+pub(crate) fn print_ruled(rt: &LibcRuntime, answer: &Result<(), ProofFault>) -> Result<(), Stop> {
     match answer {
         Ok(()) => println!(rt, "proof accepted")?,
         Err(fault) => {
@@ -87,7 +87,7 @@ pub fn print_ruled(rt: &LibcRuntime, answer: &Result<(), ProofFault>) -> Result<
 }
 
 /// What a card shows.
-pub fn print_card<C: Cost + Display>(rt: &LibcRuntime, card: &Card<C>) -> Result<(), Stop> {
+pub(crate) fn print_card<C: Cost + Display>(rt: &LibcRuntime, card: &Card<C>) -> Result<(), Stop> {
     match card.cost() {
         Some(cost) => print!(rt, "card cost={cost}")?,
         None => print!(rt, "card cost=none")?,

@@ -48,7 +48,7 @@ pub impl fmt::Display for Stop as StopDisplay {
 
 impl Stop {
     /// A line that is no command.
-    pub fn fault(heap: Global, fault: &ScriptFault<'_>) -> Stop {
+    pub(crate) fn fault(heap: Global, fault: &ScriptFault<'_>) -> Stop {
         match format!(heap, "{fault}") {
             Ok(text) => Stop::Line(text),
             Err(_) => Stop::NoMemory,
@@ -56,7 +56,7 @@ impl Stop {
     }
 
     /// A line that the card cannot take as it stands.
-    pub fn turn(heap: Global, text: &str) -> Stop {
+    pub(crate) fn turn(heap: Global, text: &str) -> Stop {
         match String::from_str(heap, text) {
             Ok(text) => Stop::Line(text),
             Err(_) => Stop::NoMemory,

@@ -32,7 +32,10 @@ use std::slice;
 const LAYERS: u16 = 1_001;
 
 /// The command of a line, if it has one.
-pub fn read_command<'l>(rt: &LibcRuntime, line: &'l str) -> Result<Option<Command<'l>>, Stop> {
+pub(crate) fn read_command<'l>(
+    rt: &LibcRuntime,
+    line: &'l str,
+) -> Result<Option<Command<'l>>, Stop> {
     match Command::read(rt.alloc(), line) {
         Ok(command) => Ok(command),
         Err(fault) => Err(Stop::fault(rt.alloc(), &fault)),
@@ -225,7 +228,7 @@ fn work_read<C: Cost + Display>(
 }
 
 /// Opens a card on the task in the place and works the lines that follow; answers the kind of the next card, if there is one.
-pub fn work_card<C: Cost + Display, R: BufRead>(
+pub(crate) fn work_card<C: Cost + Display, R: BufRead>(
     rt: &LibcRuntime,
     lines: &mut Lines<R>,
     place: &mut Place,
