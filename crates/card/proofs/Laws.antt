@@ -22,7 +22,7 @@ use Rattle.task.specs.Held.{model}
 use Rattle.plans.specs.declared.verdict.Reached.{Reached as ReachedState}
 use Rattle.plans.specs.Verdicts.{Answer, begin, next, run, finished as finishVerdict, judged, planVerdict, stepsIn}
 use Rattle.plans.specs.Achieves.{Achieves}
-use Rattle.plans.proofs.Exact.{judged-to, run-to, exact}
+use Rattle.plans.proofs.Exact.{judged-to, run-to, accepted-to}
 use Rattle.plans.proofs.Running.{run-push, run-few}
 use Rattle.judge.specs.Verdict.{proofVerdict}
 use Rattle.card.specs.declared.card.Card.{Card}
@@ -41,7 +41,7 @@ module _ {C : Type 0} (K : Kind C) (m : Model) where
 
   costs-solve : (h : History C) (e : Event C) (c : C) → Right K m h e → Costs e c → Unsolvable m → ⊥
   costs-solve h (planned p (Ok r)) c right costs none =
-      let a = exact K m p r .0 (sym (right .1)) in none (stepsIn (a .body)) (r .state) (a .achieves .leads) (a .achieves .goal)
+      let a = accepted-to K m p r (sym (right .1)) in none (stepsIn (a .0)) (r .state) (a .2 .leads) (a .2 .goal)
   costs-solve h (planned p (Err f)) c right costs none = costs
   costs-solve h (proved s p a) c right costs none = costs
   costs-solve h begun c right costs none = costs

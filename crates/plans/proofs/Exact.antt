@@ -5,7 +5,7 @@ use mathlib.Core.List.{List, [], _∷_}
 use Prim.Native.Nat.{ℕ, _+_, _<_, _≤_}
 use native.Mathlib.Omega.{arith}
 use lib.Dec.{ltb}
-use lib.ListN.{length}
+use lib.ListN.{length, getD}
 use Rattle.std.proofs.shelf.Tests.{cond-true, cond-false, lt-ltb, le-ltb, ltb-true}
 use Rattle.std.specs.shelf.Maps.{nth}
 use Rattle.std.specs.declared.option.Option.{Option}
@@ -15,6 +15,7 @@ use Rattle.std.specs.declared.result.Result.the-variants.{Ok, Err}
 use Rattle.records.specs.declared.PaperKind.the-variants.{Plan}
 use Rattle.records.specs.Single.{andThen, singleIn}
 use Rattle.records.specs.Walks.{mapErr}
+use Rattle.records.proofs.Written.{single-holds, holds-single}
 use Rattle.records.specs.declared.RecordFault.{RecordFault}
 use Rattle.costs.specs.Kind.{Kind}
 use Rattle.formulas.specs.Formula.{holds}
@@ -159,13 +160,19 @@ module _ {C : Type 0} (K : Kind C) (m : Model) where
       ∙ ap (λ x. andThen x (finished m)) (run-from os (begin K m) q (omega (arith, a .few)) (record { leads = a .leads; steps = omega (arith, a .steps); cost = a .cost }))
       ∙ cond-true _ _ _ (a .goal)
 
-  pub exact : (paper : List ℕ) → Exact K m paper (planVerdict K m paper)
-  exact paper q = (to, from)
+  -- an accepted paper has a body, whose operators achieve what is answered
+  pub accepted-to : (paper : List ℕ) (q : Reached C) → planVerdict K m paper ≡ Ok q → (body : List ℕ) × (singleIn Plan paper ≡ Ok body) × Achieves K m (stepsIn body) q
+  accepted-to paper q e =
+      let t = then-ok (mapErr Record (singleIn Plan paper)) (λ body. judged K m (stepsIn body)) q e in
+      (t .0, map-ok Record (singleIn Plan paper) (t .0) (t .1), judged-to (stepsIn (t .0)) q (t .2))
+
+  pub exact : (paper : List ℕ) → ((i : ℕ) → getD paper i 0 < 256) → Exact K m paper (planVerdict K m paper)
+  exact paper bytes q = (to, from)
     where
       to : planVerdict K m paper ≡ Ok q → Accepted K m paper q
-      to e =
-          let t = then-ok (mapErr Record (singleIn Plan paper)) (λ body. judged K m (stepsIn body)) q e in
-          record { body = t .0; is = map-ok Record (singleIn Plan paper) (t .0) (t .1); achieves = judged-to (stepsIn (t .0)) q (t .2) }
+      to e = let t = accepted-to paper q e in record { body = t .0; written = single-holds Plan paper bytes (t .0) (t .1); achieves = t .2 }
 
       from : Accepted K m paper q → planVerdict K m paper ≡ Ok q
-      from a = ap (λ x. andThen (mapErr Record x) (λ body. judged K m (stepsIn body))) (a .is) ∙ judged-from (stepsIn (a .body)) q (a .achieves)
+      from a =
+          ap (λ x. andThen (mapErr Record x) (λ body. judged K m (stepsIn body))) (holds-single Plan paper (a .body) (a .written))
+          ∙ judged-from (stepsIn (a .body)) q (a .achieves)

@@ -9,7 +9,7 @@ use Rattle.std.specs.declared.option.Option.{Option}
 use Rattle.std.specs.declared.option.Option.the-variants.{Some, None}
 use Rattle.std.specs.declared.result.Result.the-variants.{Ok, Err}
 use Rattle.records.specs.declared.PaperKind.the-variants.{Plan}
-use Rattle.records.specs.Single.{singleIn}
+use Rattle.records.specs.Papers.{Holds}
 use Rattle.costs.specs.Kind.{Kind}
 use Rattle.task.specs.Meaning.{arrived}
 use Rattle.planning.specs.Model.{Model}
@@ -34,10 +34,10 @@ pub record Achieves {C : Type 0} (K : Kind C) (m : Model) (os : List ℕ) (q : R
   pub steps : q .steps ≡ length os
   pub cost : costFrom K m (K .zero) os ≡ Some (q .cost)
 
--- the paper holds such a plan
+-- the paper is one record of a plan, and its operators are such
 pub record Accepted {C : Type 0} (K : Kind C) (m : Model) (paper : List ℕ) (q : Reached C) : Type 0 where
   pub body : List ℕ
-  pub is : singleIn Plan paper ≡ Ok body
+  pub written : Holds Plan body paper
   pub achieves : Achieves K m (stepsIn body) q
 
 -- the answer is Ok exactly where the plan is accepted, and with just that

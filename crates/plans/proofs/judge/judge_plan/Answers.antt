@@ -11,5 +11,5 @@ returns g c =
     let m = model (c .args .task .now) in
     record {
       verdict = c .plan-verdict .ensures;
-      exact = subst (Exact K m (c .args .paper .now)) (sym (c .plan-verdict .ensures)) (exact K m (c .args .paper .now));
+      exact = subst (Exact K m (c .args .paper .now)) (sym (c .plan-verdict .ensures)) (exact K m (c .args .paper .now) (λ i. c .typed .paper i .fits));
     }
