@@ -1,4 +1,6 @@
 //! The job card: what is known of a task, and the walks on it.
+#![tactic(auto)]
+
 pub mod card;
 pub mod desk;
 pub mod lodging;

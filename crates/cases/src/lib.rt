@@ -1,4 +1,6 @@
 //! The worked examples: a proved table in specs/, of which nothing runs, and tests of every limit.
+#![tactic(auto)]
+
 ghost use Rattle.cases.specs.Examples.{WorkedExamples};
 
 #[cfg(test)]

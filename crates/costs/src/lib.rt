@@ -1,4 +1,6 @@
 //! Kinds of cost, each with an order that is shown to be total.
+#![tactic(auto)]
+
 pub mod cost;
 mod crew;
 pub mod kinds;

@@ -4,7 +4,7 @@ ghost use Rattle.logic.specs.Partial.{truth, single, In};
 ghost use Rattle.logic.specs.Views.{partial};
 ghost use Rattle.formulas.specs.Changes.{Makes};
 ghost use Rattle.formulas.specs.Decode.{effect_at};
-ghost use Rattle.formulas.specs.Results.{successor, result};
+ghost use Rattle.formulas.specs.Results.{successor, result as resulting};
 
 use crate::node::Node;
 use crate::table::{NodeTable, value};
@@ -14,7 +14,7 @@ use logic::truth::Truth;
 
 /// What the effect at the node `at` sets and clears in the cube; the node's number falls.
 fn change_at<N: NodeTable>(nodes: &N, at: usize, cube: &Cube) -> Change
-    ensures* { λ r. ⌜ Makes (truth (partial cube.now)) (effect_at (N.NodeTable.nodes nodes.now) at) r ⌝ }
+    ensures { Makes (truth (partial cube.now)) (effect_at (N.NodeTable.nodes nodes.now) at) result }
 {
     match nodes.node(at) {
         Node::Set(v) => Change {
@@ -57,9 +57,9 @@ fn change_at<N: NodeTable>(nodes: &N, at: usize, cube: &Cube) -> Change
 /// The cube after the effect at the node `at`: it has the state after each state of the cube,
 /// and of a single state it is the state after that.
 pub fn successor<N: NodeTable>(nodes: &N, at: usize, cube: &Cube) -> Cube
-    ensures* value { λ r. ⌜ partial r ≡ successor (effect_at (N.NodeTable.nodes nodes.now) at) (partial cube.now) ⌝ }
-    ensures* states { λ r. ⌜ ((s : ℕ) → In (partial cube.now) s → In (partial r) (result (partial cube.now).width (effect_at (N.NodeTable.nodes nodes.now) at) s)) ⌝ }
-    ensures* total { λ r. ⌜ ((s : ℕ) → partial cube.now ≡ single (N.NodeTable.wide nodes.now) s → partial r ≡ single (N.NodeTable.wide nodes.now) (result (N.NodeTable.wide nodes.now) (effect_at (N.NodeTable.nodes nodes.now) at) s)) ⌝ }
+    ensures value { partial result ≡ successor (effect_at (N.NodeTable.nodes nodes.now) at) (partial cube.now) }
+    ensures states { (s : ℕ) → In (partial cube.now) s → In (partial result) (resulting (partial cube.now).width (effect_at (N.NodeTable.nodes nodes.now) at) s) }
+    ensures total { (s : ℕ) → partial cube.now ≡ single (N.NodeTable.wide nodes.now) s → partial result ≡ single (N.NodeTable.wide nodes.now) (resulting (N.NodeTable.wide nodes.now) (effect_at (N.NodeTable.nodes nodes.now) at) s) }
 {
     cube.apply(&change_at(nodes, at, cube))
 }

@@ -1,4 +1,6 @@
 //! Formulas and effects as tables of nodes: their rules, their values in cubes, and what effects make of cubes.
+#![tactic(auto)]
+
 pub mod effects;
 pub mod names;
 pub mod node;

@@ -1,4 +1,6 @@
 //! `jobcard [FILE]`: works the script in FILE, or on standard input.
+#![tactic(auto)]
+
 use anyhow::anyhow;
 use session::lines::Lines;
 use session::run::run;

@@ -1,5 +1,7 @@
 //! Papers as bytes. A paper is made of records: a length of four bytes, a kind of two bytes, and a body.
 //! All numbers are little-endian.
+#![tactic(auto)]
+
 ghost use Rattle.std.specs.Prelude.{◌≡◌, ◌+◌, ◌<◌, ◌++◌, length, IfOk, Some};
 ghost use Rattle.records.specs.Faults.{number_of, layer_of, place_of, word_of};
 ghost use Rattle.records.specs.Kinds.{code_of, entry_of};

@@ -1,4 +1,6 @@
 //! The command language of the program: lines into commands.
+#![tactic(auto)]
+
 pub mod command;
 pub mod fault;
 mod hex;

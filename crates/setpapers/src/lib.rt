@@ -1,4 +1,6 @@
 //! Sets of states read where their papers lie: lists, decision diagrams and formulas.
+#![tactic(auto)]
+
 pub mod diagram;
 pub mod entry;
 pub mod fault;

@@ -1,4 +1,6 @@
 //! Planning tasks: read from their papers into a place with room for the largest, and run.
+#![tactic(auto)]
+
 pub mod entries;
 pub mod faults;
 pub mod place;

@@ -19,7 +19,7 @@ fn check_tree<L: LeafRules>(
     rules: &L,
     rule: usize,
 ) -> Result<usize, TreeFault>
-    ensures value { result ≡ tree_at (settles rules.now rule) body.now (free_count (partial cube)) at (partial cube) }
+    ensures value { result ≡ tree_at (L.LeafRules.settles rules.now rule) body.now (free_count (partial cube)) at (partial cube) }
     ensures bound { IfOk result (λ n. n ≤ length body.now) }
 {
     let Some(byte) = body.get(at) else {
@@ -46,7 +46,7 @@ fn check_trees<L: LeafRules>(
     rules: &L,
     count: usize,
 ) -> Result<(), TreeFault>
-    ensures { result ≡ body_verdict (settles rules.now) body.now (partial space) count }
+    ensures { result ≡ body_verdict (L.LeafRules.settles rules.now) body.now (partial space) count }
 {
     let mut at = 0;
     for rule in 0..count {
@@ -66,9 +66,9 @@ pub fn check_body<L: LeafRules>(
     rules: &L,
     count: usize,
 ) -> Result<(), TreeFault>
-    ensures value { result ≡ body_verdict (settles rules.now) body.now (partial space) count }
-    ensures exact { (result ≡ Ok tt) ↔ Proves (settles rules.now) body.now (partial space) count }
-    ensures covers { result ≡ Ok tt → EachCovers (settles rules.now) (partial space) count }
+    ensures value { result ≡ body_verdict (L.LeafRules.settles rules.now) body.now (partial space) count }
+    ensures exact { (result ≡ Ok tt) ↔ Proves (L.LeafRules.settles rules.now) body.now (partial space) count }
+    ensures covers { result ≡ Ok tt → EachCovers (L.LeafRules.settles rules.now) (partial space) count }
     ensures leaves { LeavesKnow (partial space) }
 {
     check_trees(body, space, rules, count)

@@ -1,4 +1,6 @@
 //! Works a long script of random commands on standard input; what it prints is held to the stored lines.
+#![tactic(auto)]
+
 use anyhow::anyhow;
 use session::lines::Lines;
 use session::run::run;

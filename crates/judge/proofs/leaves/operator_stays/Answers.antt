@@ -11,17 +11,17 @@ returns-in-None g c =
     let v = value_of c.args.task.now in
     stays_none (g.S.StateSet.answer c.args.set.now) v.nodes v.operators c.args.number (partial c.args.cube.now) c.operator.result c.operator.ensures c.in-None.is
 
-pub returns-then-is-false : goal.returns-then-is-false
-returns-then-is-false g c =
+pub returns-then-is_false : goal.returns-then-is_false
+returns-then-is_false g c =
     let v = value_of c.args.task.now in
-    let unfit = sym c.if-is-false.true ∙ c.is-false.ensures ∙ ap refuted c.value.ensures.truth in
-    c.if-is-false.true
+    let unfit = sym c.if-is_false.true ∙ c.is_false.ensures ∙ ap refuted c.value.ensures.truth in
+    c.if-is_false.true
     ∙ stays_unfit (g.S.StateSet.answer c.args.set.now) v.nodes v.operators c.args.number (partial c.args.cube.now) c.operator.result c.operator.ensures c.in-Some.operator c.in-Some.is unfit
 
-pub returns-else-is-false : goal.returns-else-is-false
-returns-else-is-false g c =
+pub returns-else-is_false : goal.returns-else-is_false
+returns-else-is_false g c =
     let v = value_of c.args.task.now in
-    let fit = sym c.if-is-false.false ∙ c.is-false.ensures ∙ ap refuted c.value.ensures.truth in
+    let fit = sym c.if-is_false.false ∙ c.is_false.ensures ∙ ap refuted c.value.ensures.truth in
     let ask = g.S.StateSet.answer c.args.set.now in
-    stays_asked ask v.nodes v.operators c.args.number (partial c.args.cube.now) c.operator.result c.operator.ensures c.in-Some.operator c.in-Some.is fit c.is-inside.result
-    (c.is-inside.ensures ∙ ap is_inside c.ask.ensures ∙ ap (λ k. is_inside (ask k)) c.successor.ensures.value)
+    stays_asked ask v.nodes v.operators c.args.number (partial c.args.cube.now) c.operator.result c.operator.ensures c.in-Some.operator c.in-Some.is fit c.is_inside.result
+    (c.is_inside.ensures ∙ ap is_inside c.ask.ensures ∙ ap (λ k. is_inside (ask k)) c.successor.ensures.value)

@@ -11,4 +11,4 @@ returns g c =
     let ask = g.S.StateSet.answer c.args.set.now in
     let one : partial c.at-start.result ≡ single t.n (c.start.result % 2 ^ t.n) = one_state t.n c.start.result c.states.result c.at-start.result c.states.ensures c.at-start.ensures in
     let is : c.start.result % 2 ^ t.n ≡ t.start = ap (λ s. s % 2 ^ t.n) c.start.ensures ∙ mod-eq_of_lt t.begins in
-    c.is-inside.ensures ∙ ap is_inside c.ask.ensures ∙ ap (λ k. is_inside (ask k)) (one ∙ ap (single t.n) is)
+    c.is_inside.ensures ∙ ap is_inside c.ask.ensures ∙ ap (λ k. is_inside (ask k)) (one ∙ ap (single t.n) is)

@@ -25,19 +25,19 @@ returns g c =
     let ask = g.S.StateSet.answer set in
     let laws : Laws wide has ask = g.S.StateSet.meant set in
     let paper = c.args.paper.now in
-    let r = c.proof-verdict.result in
+    let r = c.proof_verdict.result in
     let narrow : m.variables ≤ 255 = omega (arith, t.width) in
-    let exactly = accepted_exactly m ask narrow paper r c.proof-verdict.ensures (λ i. (c.type-inv.paper i).fits) in
+    let exactly = accepted_exactly m ask narrow paper r c.proof_verdict.ensures (λ i. (c.type_inv.paper i).fits) in
     record {
-      verdict = c.proof-verdict.ensures;
+      verdict = c.proof_verdict.ensures;
       exact = exactly;
       sound = λ e.
           let a = exactly.0 e in
           proof_shows wide has ask laws m (well_formed t) a.start (proof_covers (settles ask m) (whole m.variables) (fine_whole m.variables) a.body (tree_count m) a.trees);
       complete = λ none same reach empty held finds written.
-          paper_accepted m ask narrow paper r c.proof-verdict.ensures (plain_body held m.variables (tree_count m)) written
+          paper_accepted m ask narrow paper r c.proof_verdict.ensures (plain_body held m.variables (tree_count m)) written
           (plain_accepted m (well_formed t) has ask (subst (λ w. Laws w has ask) same laws) none reach empty narrow held finds);
       lists = λ none bs rises reach same written.
-          paper_accepted m ask narrow paper r c.proof-verdict.ensures (plain_of m bs) written (list_accepted m (well_formed t) narrow none bs rises reach ask same);
+          paper_accepted m ask narrow paper r c.proof_verdict.ensures (plain_of m bs) written (list_accepted m (well_formed t) narrow none bs rises reach ask same);
       plain = list_plain;
     }

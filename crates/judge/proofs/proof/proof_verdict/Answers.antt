@@ -8,30 +8,30 @@ use Rattle.judge.specs.Verdict.{tree_count}
 use Rattle.judge.proofs.Judged.{start_refused, trees_refused, trees_passed}
 use Rattle.judge.proofs.proof.proof_verdict.Goals as goal
 
-pub returns-then-not-holds-start : goal.returns-then-not-holds-start
-returns-then-not-holds-start g c =
-    start_refused (model c.args.task.now) (g.S.StateSet.answer c.args.set.now) c.args.paper.now c.in-ok-body.body.now (seen c.single.result) c.single.ensures.value
-    (ap seen c.in-ok-body.was) c.holds-start.result c.holds-start.ensures c.if-not-holds-start.true
+pub returns-then-not-holds_start : goal.returns-then-not-holds_start
+returns-then-not-holds_start g c =
+    start_refused (model c.args.task.now) (g.S.StateSet.answer c.args.set.now) c.args.paper.now c.in_ok-body.body.now (seen c.single.result) c.single.ensures.value
+    (ap seen c.in_ok-body.was) c.holds_start.result c.holds_start.ensures c.if-not-holds_start.true
 
-pub overflow-add-operator-count : goal.overflow-add-operator-count
-overflow-add-operator-count g c =
+pub overflow_add-operator_count : goal.overflow_add-operator_count
+overflow_add-operator_count g c =
     let v = value_of c.args.task.now in
-    let few = c.operator-count.ensures.rules.few_operators in
-    let count = c.operator-count.ensures.count in
-    let fits : c.operator-count.result + 1 < 2 ^ 64 = omega (arith, few, count, length_actions v.nodes v.operators) in
+    let few = c.operator_count.ensures.rules.few_operators in
+    let count = c.operator_count.ensures.count in
+    let fits : c.operator_count.result + 1 < 2 ^ 64 = omega (arith, few, count, length_actions v.nodes v.operators) in
     record { fits = fits }
 
-pub returns-in-err-check-body : goal.returns-in-err-check-body
-returns-in-err-check-body g c =
-    let p = err_from_is_err_and c.from-residual-in-err-check-body.result c.from-residual-in-err-check-body.ensures.1 in
-    let number : c.operator-count.result + 1 ≡ tree_count (model c.args.task.now) = add-one c.operator-count.result ∙ ap suc c.operator-count.ensures.count in
-    trees_refused (model c.args.task.now) (g.S.StateSet.answer c.args.set.now) c.args.paper.now c.in-ok-body.body.now (seen c.single.result) c.single.ensures.value
-    (ap seen c.in-ok-body.was) c.holds-start.result c.holds-start.ensures c.if-not-holds-start.false (partial c.states.result) c.states.ensures (c.operator-count.result + 1) number
-    c.check-body.result c.check-body.ensures.value c.in-err-check-body.field-0.0 p.0 c.from-residual-in-err-check-body.result c.in-err-check-body.was p.1 p.2
+pub returns-in_err-check_body : goal.returns-in_err-check_body
+returns-in_err-check_body g c =
+    let p = err_from_is_err_and c.from_residual-in_err-check_body.result c.from_residual-in_err-check_body.ensures.1 in
+    let number : c.operator_count.result + 1 ≡ tree_count (model c.args.task.now) = add-one c.operator_count.result ∙ ap suc c.operator_count.ensures.count in
+    trees_refused (model c.args.task.now) (g.S.StateSet.answer c.args.set.now) c.args.paper.now c.in_ok-body.body.now (seen c.single.result) c.single.ensures.value
+    (ap seen c.in_ok-body.was) c.holds_start.result c.holds_start.ensures c.if-not-holds_start.false (partial c.states.result) c.states.ensures (c.operator_count.result + 1) number
+    c.check_body.result c.check_body.ensures.value c.in_err-check_body.field-0.0 p.0 c.from_residual-in_err-check_body.result c.in_err-check_body.was p.1 p.2
 
 pub returns : goal.returns
 returns g c =
-    let number : c.operator-count.result + 1 ≡ tree_count (model c.args.task.now) = add-one c.operator-count.result ∙ ap suc c.operator-count.ensures.count in
-    trees_passed (model c.args.task.now) (g.S.StateSet.answer c.args.set.now) c.args.paper.now c.in-ok-body.body.now (seen c.single.result) c.single.ensures.value
-    (ap seen c.in-ok-body.was) c.holds-start.result c.holds-start.ensures c.if-not-holds-start.false (partial c.states.result) c.states.ensures (c.operator-count.result + 1) number
-    c.check-body.result c.check-body.ensures.value c.in-ok-check-body.was
+    let number : c.operator_count.result + 1 ≡ tree_count (model c.args.task.now) = add-one c.operator_count.result ∙ ap suc c.operator_count.ensures.count in
+    trees_passed (model c.args.task.now) (g.S.StateSet.answer c.args.set.now) c.args.paper.now c.in_ok-body.body.now (seen c.single.result) c.single.ensures.value
+    (ap seen c.in_ok-body.was) c.holds_start.result c.holds_start.ensures c.if-not-holds_start.false (partial c.states.result) c.states.ensures (c.operator_count.result + 1) number
+    c.check_body.result c.check_body.ensures.value c.in_ok-check_body.was

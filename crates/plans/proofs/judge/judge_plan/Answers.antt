@@ -10,6 +10,6 @@ returns g c =
     let K = g.C.Cost.kind in
     let m = model c.args.task.now in
     record {
-      verdict = c.plan-verdict.ensures;
-      exact = subst (Exact K m c.args.paper.now) (sym c.plan-verdict.ensures) (exact K m c.args.paper.now (λ i. (c.type-inv.paper i).fits));
+      verdict = c.plan_verdict.ensures;
+      exact = subst (Exact K m c.args.paper.now) (sym c.plan_verdict.ensures) (exact K m c.args.paper.now (λ i. (c.type_inv.paper i).fits));
     }

@@ -9,18 +9,18 @@ pub loop-rest-init : goal.loop-rest-init
 loop-rest-init g c =
     λ i. run g.C.Cost.kind (model c.args.task.now) (reached (c.start.ensures i) 0 (c.zero.ensures i)) (steps_in c.args.body.now)
 
-pub returns-in-err-reached : goal.returns-in-err-reached
-returns-in-err-reached g c =
+pub returns-in_err-reached : goal.returns-in_err-reached
+returns-in_err-reached g c =
     let more : 2 ≤ length c.loop-rest.rest.now = search rules in
-    let p = err_from_is_err_and c.from-residual.result c.from-residual.ensures.1 in
+    let p = err_from_is_err_and c.from_residual.result c.from_residual.ensures.1 in
     p.1 ∙ ap Err p.2
-    ∙ run_off g.C.Cost.kind (model c.args.task.now) c.loop-rest.reached c.loop-rest.rest.now _ more c.from-le-bytes.ensures _ c.in-err-reached.ensures
+    ∙ run_off g.C.Cost.kind (model c.args.task.now) c.loop-rest.reached c.loop-rest.rest.now _ more c.from_le_bytes.ensures _ c.in_err-reached.ensures
     ∙ c.loop-rest.invariant
 
 pub loop-rest-preserved : goal.loop-rest-preserved
 loop-rest-preserved g c =
     let more : 2 ≤ length c.loop-rest.rest.now = search rules in
-    run_on g.C.Cost.kind (model c.args.task.now) c.loop-rest.reached c.loop-rest.rest.now _ more c.from-le-bytes.ensures _ c.in-ok-reached.ensures
+    run_on g.C.Cost.kind (model c.args.task.now) c.loop-rest.reached c.loop-rest.rest.now _ more c.from_le_bytes.ensures _ c.in_ok-reached.ensures
     ∙ c.loop-rest.invariant
 
 pub returns : goal.returns

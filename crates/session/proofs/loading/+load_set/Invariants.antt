@@ -1,4 +1,4 @@
 use Rattle.session.proofs.loading.+load_set.Given as goal
 
-abbrev pub decreases-load-set : goal.decreases-load-set
-decreases-load-set l = l.depth
+abbrev pub decreases-load_set : goal.decreases-load_set
+decreases-load_set l = l.depth

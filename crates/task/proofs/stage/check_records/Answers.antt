@@ -8,5 +8,5 @@ loop-rest-init c = begun _ _ _ _
 pub loop-rest-preserved : goal.loop-rest-preserved
 loop-rest-preserved c =
     let some : 0 < length c.loop-rest.rest.now = search rules in
-    let cut = c.in-ok-record.ensures in
-    steps _ _ _ _ c.loop-rest.invariant some _ (sym cut.value) _ (sym c.in-ok-stage.ensures) cut.sizes
+    let cut = c.in_ok-record.ensures in
+    steps _ _ _ _ c.loop-rest.invariant some _ (sym cut.value) _ (sym c.in_ok-stage.ensures) cut.sizes

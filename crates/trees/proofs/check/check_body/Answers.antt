@@ -10,9 +10,9 @@ returns g c =
     let settles = g.L.LeafRules.settles c.args.rules.now in
     let space = partial c.args.space in
     let narrow : c.args.space.width ≤ 255 = omega (arith, c.args.space.narrow) in
-    let exactly = answered_body settles c.args.body.now space (fine c.args.space) narrow c.args.count c.check-trees.result c.check-trees.ensures in
+    let exactly = answered_body settles c.args.body.now space (fine c.args.space) narrow c.args.count c.check_trees.result c.check_trees.ensures in
     record {
-      value = c.check-trees.ensures;
+      value = c.check_trees.ensures;
       exact = exactly;
       covers = λ e. proof_covers settles space (fine c.args.space) c.args.body.now c.args.count (exactly.0 e);
       leaves = leaves_know space;

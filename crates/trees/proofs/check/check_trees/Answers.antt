@@ -4,16 +4,16 @@ use Rattle.trees.proofs.Rounds.{round_fails, round_goes, round_trails, round_end
 use Rattle.trees.proofs.check.check_trees.Goals as goal
 use Rattle.std.proofs.Common.{sym, ◌∙◌}
 
-pub returns-in-err-at : goal.returns-in-err-at
-returns-in-err-at g c =
-    let p = err_from_is_err_and c.from-residual.result c.from-residual.ensures.1 in
+pub returns-in_err-at : goal.returns-in_err-at
+returns-in_err-at g c =
+    let p = err_from_is_err_and c.from_residual.result c.from_residual.ensures.1 in
     round_fails (g.L.LeafRules.settles c.args.rules.now) c.args.body.now (partial c.args.space) c.args.count c.loop-rule.rule c.loop-rule.at _ c.loop-rule.invariant
-    c.loop-rule-test.true c.in-err-at.field-0.0 p.0 c.from-residual.result (sym c.check-tree.ensures.value ∙ c.in-err-at.was) p.1 p.2
+    c.loop-rule-test.true c.in_err-at.field-0.0 p.0 c.from_residual.result (sym c.check_tree.ensures.value ∙ c.in_err-at.was) p.1 p.2
 
 pub loop-rule-preserved : goal.loop-rule-preserved
 loop-rule-preserved g c =
     round_goes (g.L.LeafRules.settles c.args.rules.now) c.args.body.now (partial c.args.space) c.args.count c.loop-rule.rule c.loop-rule.at _ c.loop-rule.invariant
-    c.loop-rule-test.true c.in-ok-at.at (sym c.check-tree.ensures.value ∙ c.in-ok-at.was)
+    c.loop-rule-test.true c.in_ok-at.at (sym c.check_tree.ensures.value ∙ c.in_ok-at.was)
 
 pub returns-then-at-body : goal.returns-then-at-body
 returns-then-at-body g c =

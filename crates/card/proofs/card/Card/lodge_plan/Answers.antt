@@ -3,6 +3,6 @@ use Rattle.card.proofs.card.Card.lodge_plan.Goals as goal
 
 pub returns : goal.returns
 returns g c =
-    let answer = c.judge-plan-answer.ensures.verdict in
+    let answer = c.judge_plan-answer.ensures.verdict in
     let after = c.note.ensures in
-    record { exact = c.judge-plan-answer.ensures.exact; answer = answer; after = after; law = keeps_plan g.C.Cost.ordered c.args.self.now _ c.args.paper.now _ answer after }
+    record { exact = c.judge_plan-answer.ensures.exact; answer = answer; after = after; law = keeps_plan g.C.Cost.ordered c.args.self.now _ c.args.paper.now _ answer after }

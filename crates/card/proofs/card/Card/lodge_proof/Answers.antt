@@ -4,7 +4,7 @@ use Rattle.card.proofs.card.Card.lodge_proof.Goals as goal
 pub returns : goal.returns
 returns g c =
     let set = g.S.StateSet.answer c.args.set.now in
-    let judged = c.judge-proof-answer.ensures in
+    let judged = c.judge_proof-answer.ensures in
     let after = c.rule.ensures in
     record {
       exact = judged.exact;

@@ -26,7 +26,7 @@ loop-call-preserved g c = (
   λ m h s.
       let before = c.loop-call.invariant.3 m h s in
       works_push g.C.Cost.kind g.S.StateSet.answer m c.args.calls.now c.loop-call.call-index c.call-item.result c.loop-call-test.true c.call-item.is
-      (vec_items c.loop-call.replies) (vec_items c.push-reserved.new.self) c.obey-next.result.1 c.push-reserved.ensures.items h c.loop-call.desk c.obey-next.result.0 before
+      (vec_items c.loop-call.replies) (vec_items c.push_reserved.new.self) c.obey-next.result.1 c.push_reserved.ensures.items h c.loop-call.desk c.obey-next.result.0 before
       (c.obey-next.ensures m before.after before.stands),
 )
 

@@ -4,18 +4,17 @@ use Rattle.logic.specs.Partial.{Fine, cube_of}
 use Rattle.logic.proofs.Applied.{new_known, new_value, new_within, new_part, new_seen}
 use Rattle.logic.proofs.cube.Cube.apply.Goals as goal
 
-pub invariant-of-result : goal.invariant-of-result
-invariant-of-result c =
+pub invariant_of-result : goal.invariant_of-result
+invariant_of-result c =
     let q = c.args.self.now in
     let s = c.args.change.now.set in
     let k = c.args.change.now.clear in
-    let full = c.ones-full.result in (
-      q.narrow,
-      (
-        new_within q.width full q.known q.value s.must s.may k.must k.may q.narrow c.ones-full.ensures,
-        (new_part q.width full q.known q.value s.must s.may k.must k.may q.narrow c.ones-full.ensures, tt),
-      ),
-    )
+    let full = c.ones-full.result in
+    record {
+      narrow = q.narrow;
+      within = new_within q.width full q.known q.value s.must s.may k.must k.may q.narrow c.ones-full.ensures;
+      part = new_part q.width full q.known q.value s.must s.may k.must k.may q.narrow c.ones-full.ensures;
+    }
 
 pub returns : goal.returns
 returns c =

@@ -8,13 +8,13 @@ returns-then-v-ge64 c =
     let self = c.args.self in
     freed_same (partial self) (fine self) c.args.v (omega (arith, self.narrow, c.if-v-ge64.true))
 
-pub invariant-of-result : goal.invariant-of-result
-invariant-of-result c =
+pub invariant_of-result : goal.invariant_of-result
+invariant_of-result c =
     let self = c.args.self in
-    let f = freed_fine (partial self) (fine self) c.args.v c.without.result c.without-2.result c.without.type-inv c.without-2.type-inv c.without.ensures c.without-2.ensures in
-    (self.narrow, (f.inside, (f.part, tt)))
+    let f = freed_fine (partial self) (fine self) c.args.v c.without.result c.without-2.result c.without.type_inv c.without-2.type_inv c.without.ensures c.without-2.ensures in
+    record { narrow = self.narrow; within = f.inside; part = f.part }
 
 pub returns : goal.returns
 returns c =
     let self = c.args.self in
-    freed_is (partial self) (fine self) c.args.v c.without.result c.without-2.result c.without.type-inv c.without-2.type-inv c.without.ensures c.without-2.ensures
+    freed_is (partial self) (fine self) c.args.v c.without.result c.without-2.result c.without.type_inv c.without-2.type_inv c.without.ensures c.without-2.ensures

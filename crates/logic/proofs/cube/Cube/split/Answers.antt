@@ -18,12 +18,12 @@ module _ (self : Cube) (v : ℕ) (free : is_free (partial self) v ≡ true) wher
   high-fine : Fine (cube_of self.width (bit_or self.known ((1 * 2 ^ v) % 2 ^ 64)) (bit_or self.value ((1 * 2 ^ v) % 2 ^ 64)))
   high-fine = subst (λ (p : ℕ). Fine (cube_of self.width (bit_or self.known p) (bit_or self.value p))) (sym shifted) (fine_upper (partial self) v (fine self) free)
 
-pub invariant-of-low : goal.invariant-of-low
-invariant-of-low c =
-    let f = low-fine c.args.self c.args.v (sym c.is-free.ensures ∙ c.if-not-is-free.false) in
-    (c.args.self.narrow, (f.inside, (f.part, tt)))
+pub invariant_of-low : goal.invariant_of-low
+invariant_of-low c =
+    let f = low-fine c.args.self c.args.v (sym c.is_free.ensures ∙ c.if-not-is_free.false) in
+    record { narrow = c.args.self.narrow; within = f.inside; part = f.part }
 
-pub invariant-of-high : goal.invariant-of-high
-invariant-of-high c =
-    let f = high-fine c.args.self c.args.v (sym c.is-free.ensures ∙ c.if-not-is-free.false) in
-    (c.args.self.narrow, (f.inside, (f.part, tt)))
+pub invariant_of-high : goal.invariant_of-high
+invariant_of-high c =
+    let f = high-fine c.args.self c.args.v (sym c.is_free.ensures ∙ c.if-not-is_free.false) in
+    record { narrow = c.args.self.narrow; within = f.inside; part = f.part }

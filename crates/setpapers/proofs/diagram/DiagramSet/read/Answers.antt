@@ -9,16 +9,16 @@ use Rattle.setpapers.proofs.Found.{body_check}
 use Rattle.setpapers.proofs.Rules.{diagram_found}
 use Rattle.setpapers.proofs.diagram.DiagramSet.read.Goals as goal
 
-pub returns-in-err-check : goal.returns-in-err-check
-returns-in-err-check c =
+pub returns-in_err-check : goal.returns-in_err-check
+returns-in_err-check c =
     let w = c.args.width in
     let paper = c.args.paper.now in
-    let body = c.in-ok-body.body.now in
-    let x = c.in-err-check.field-0.0 in
-    let read = c.in-ok-body.ensures in
-    let known : Err x ≡ diagram_in w paper = ap (accepted body) c.in-err-check.ensures ∙ body_check DiagramPaper (diagram_verdict w) paper body read.value in
-    let e : c.from-residual-in-err-check.result ≡ Err x = search rules in
-    let answer : c.from-residual-in-err-check.result ≡ answered (diagram_in w paper) = e ∙ ap answered known in
+    let body = c.in_ok-body.body.now in
+    let x = c.in_err-check.field-0.0 in
+    let read = c.in_ok-body.ensures in
+    let known : Err x ≡ diagram_in w paper = ap (accepted body) c.in_err-check.ensures ∙ body_check DiagramPaper (diagram_verdict w) paper body read.value in
+    let e : c.from_residual-in_err-check.result ≡ Err x = search rules in
+    let answer : c.from_residual-in_err-check.result ≡ answered (diagram_in w paper) = e ∙ ap answered known in
     record {
       answer = answer;
       width = c.empty.ensures.width;
@@ -26,20 +26,20 @@ returns-in-err-check c =
       rules = subst (Found DiagramPaper 1 entries (DiagramEntry w) paper) (sym answer) (diagram_found w paper (subst (Exact DiagramPaper paper) read.value read.exact));
     }
 
-pub invariant-of-self : goal.invariant-of-self
-invariant-of-self c =
+pub invariant_of-self : goal.invariant_of-self
+invariant_of-self c =
     let w = c.args.width in
-    let body = c.in-ok-body.body.now in
-    let v = verdict_ok (lawful w (entry_at body)) 1 (entries body) (sym c.in-ok-check.ensures) in
-    (v.0, (subst (λ n. all (lawful n (entry_at body)) (entries body) ≡ true) (sym c.empty.ensures.width) v.1, tt))
+    let body = c.in_ok-body.body.now in
+    let v = verdict_ok (lawful w (entry_at body)) 1 (entries body) (sym c.in_ok-check.ensures) in
+    record { few = v.0; fine = subst (λ n. all (lawful n (entry_at body)) (entries body) ≡ true) (sym c.empty.ensures.width) v.1 }
 
 pub returns : goal.returns
 returns c =
     let w = c.args.width in
     let paper = c.args.paper.now in
-    let body = c.in-ok-body.body.now in
-    let read = c.in-ok-body.ensures in
-    let known : Ok body ≡ diagram_in w paper = ap (accepted body) c.in-ok-check.ensures ∙ body_check DiagramPaper (diagram_verdict w) paper body read.value in
+    let body = c.in_ok-body.body.now in
+    let read = c.in_ok-body.ensures in
+    let known : Ok body ≡ diagram_in w paper = ap (accepted body) c.in_ok-check.ensures ∙ body_check DiagramPaper (diagram_verdict w) paper body read.value in
     record {
       answer = ap answered known;
       width = c.empty.ensures.width;

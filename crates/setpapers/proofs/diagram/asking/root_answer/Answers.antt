@@ -8,8 +8,8 @@ use Rattle.setpapers.specs.DiagramLaws.{low_below, high_below}
 use Rattle.setpapers.proofs.Answered.{answered_more}
 use Rattle.setpapers.proofs.diagram.asking.root_answer.Goals as goal
 
-pub entry-answer-requires : goal.entry-answer-requires
-entry-answer-requires c =
+pub entry_answer-requires : goal.entry_answer-requires
+entry_answer-requires c =
     let w = c.args.width in
     let e = entry_at c.args.body.now in
     let i = c.loop-i.i in
@@ -27,6 +27,6 @@ loop-i-preserved c =
     let i = c.loop-i.i in
     let hi : i < entries bs = omega arith in
     let hl : i < length row = omega (arith, c.loop-i.invariant.0) in (
-      omega (arith, length-set row i c.entry-answer.result, c.loop-i.invariant.0),
-      answered_more c.args.width (entry_at bs) (entries bs) c.requires.fine (truth (partial c.args.cube.now)) row i c.entry.result c.entry-answer.result c.entry.ensures hi hl c.loop-i.invariant.1 c.entry-answer.ensures,
+      omega (arith, length-set row i c.entry_answer.result, c.loop-i.invariant.0),
+      answered_more c.args.width (entry_at bs) (entries bs) c.requires.fine (truth (partial c.args.cube.now)) row i c.entry.result c.entry_answer.result c.entry.ensures hi hl c.loop-i.invariant.1 c.entry_answer.ensures,
     )

@@ -5,14 +5,14 @@ use Rattle.setpapers.specs.Count.{tally}
 use Rattle.setpapers.specs.Counted.{tally_bound, tally_hit, tally_miss}
 use Rattle.setpapers.specs.Lists.{state_at}
 use Rattle.setpapers.proofs.list.asking.count_in.Goals as goal
-use Rattle.setpapers.proofs.list.asking.count_in.Goals.{then_agrees, else-agrees}
+use Rattle.setpapers.proofs.list.asking.count_in.Goals.{then-agrees, else-agrees}
 
 pub loop-i-init : goal.loop-i-init
 unfolding tally
 loop-i-init c = refl
 
-pub overflow-add-found : goal.overflow-add-found
-overflow-add-found c = omega (arith, c.loop-i.invariant, tally_bound (state_at c.args.body.now) (holds_state (partial c.args.cube.now)) c.loop-i.i)
+pub overflow_add-found : goal.overflow_add-found
+overflow_add-found c = omega (arith, c.loop-i.invariant, tally_bound (state_at c.args.body.now) (holds_state (partial c.args.cube.now)) c.loop-i.i)
 
 pub loop-i-preserved : goal.loop-i-preserved
 loop-i-preserved c =
@@ -21,6 +21,6 @@ loop-i-preserved c =
     let i = c.loop-i.i in
     let in-cube : c.agrees.result ≡ p (e i) = c.agrees.ensures ∙ ap p c.state.ensures in
     elim c.if-agrees.branch [
-      | then_agrees w ↦ w.found-is ∙ ap (λ n. n + 1) c.loop-i.invariant ∙ sym (tally_hit e p i (sym in-cube ∙ w.if-agrees.true))
+      | then-agrees w ↦ w.found-is ∙ ap (λ n. n + 1) c.loop-i.invariant ∙ sym (tally_hit e p i (sym in-cube ∙ w.if-agrees.true))
       | else-agrees w ↦ w.found-is ∙ c.loop-i.invariant ∙ sym (tally_miss e p i (sym in-cube ∙ w.if-agrees.false))
     ]

@@ -8,14 +8,14 @@ use Rattle.setpapers.proofs.list.reading.check.Goals as goal
 pub loop-i-init : goal.loop-i-init
 loop-i-init c = all_none _
 
-pub returns-then-not-is-lawful : goal.returns-then-not-is-lawful
-returns-then-not-is-lawful c =
+pub returns-then-not-is_lawful : goal.returns-then-not-is_lawful
+returns-then-not-is_lawful c =
     verdict_bad (rises c.args.width (state_at c.args.body.now)) 0 (states c.args.body.now) (omega arith) (omega arith)
-    c.loop-i.i c.loop-i.invariant (sym c.is-lawful.ensures ∙ c.if-not-is-lawful.true) (omega arith)
+    c.loop-i.i c.loop-i.invariant (sym c.is_lawful.ensures ∙ c.if-not-is_lawful.true) (omega arith)
 
 pub loop-i-preserved : goal.loop-i-preserved
 loop-i-preserved c =
-    all_more (rises c.args.width (state_at c.args.body.now)) c.loop-i.i c.loop-i.invariant (sym c.is-lawful.ensures ∙ c.if-not-is-lawful.false)
+    all_more (rises c.args.width (state_at c.args.body.now)) c.loop-i.i c.loop-i.invariant (sym c.is_lawful.ensures ∙ c.if-not-is_lawful.false)
 
 pub returns : goal.returns
 returns c =

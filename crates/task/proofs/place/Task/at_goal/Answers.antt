@@ -12,6 +12,6 @@ pub returns-in-Some : goal.returns-in-Some
 returns-in-Some c =
     let t = c.args.self.now in
     let one = one_state t.n c.args.state c.states.result c.at.result c.states.ensures c.at.ensures in
-    c.is-true.ensures ∙ ap sure c.value.ensures.truth
+    c.is_true.ensures ∙ ap sure c.value.ensures.truth
     ∙ sure_in t.n c.args.state (nodes_of t) (ordered_of t) (partial c.at.result) one c.in-Some.goal
     ∙ ap (λ g. holds (state c.args.state) (goal_at (nodes_of t) g)) (sym c.in-Some.is)

@@ -13,17 +13,17 @@ loop-rest-init c = (
   subst (λ (v : Value). Marks c.none-named.result.marks (names v)) (sym c.requires) c.none-named.ensures,
 )
 
-pub returns-in-err-put : goal.returns-in-err-put
-returns-in-err-put c =
+pub returns-in_err-put : goal.returns-in_err-put
+returns-in_err-put c =
     let some : 0 < length c.loop-rest.rest.now = search rules in
-    let cut = c.in-ok-record.ensures in
-    let p = err_from_is_err_and c.from-residual-in-err-put.result c.from-residual-in-err-put.ensures.1 in
-    rw (p.1, p.2) (halts _ _ _ _ c.loop-rest.invariant.0 some _ (sym cut.value) _ c.in-err-put.ensures.task)
+    let cut = c.in_ok-record.ensures in
+    let p = err_from_is_err_and c.from_residual-in_err-put.result c.from_residual-in_err-put.ensures.1 in
+    rw (p.1, p.2) (halts _ _ _ _ c.loop-rest.invariant.0 some _ (sym cut.value) _ c.in_err-put.ensures.task)
 
 pub loop-rest-preserved : goal.loop-rest-preserved
 loop-rest-preserved c =
     let some : 0 < length c.loop-rest.rest.now = search rules in
-    let cut = c.in-ok-record.ensures in (
-      steps _ _ _ _ c.loop-rest.invariant.0 some _ (sym cut.value) _ c.in-ok-put.ensures.task cut.sizes,
-      c.in-ok-put.ensures.marks,
+    let cut = c.in_ok-record.ensures in (
+      steps _ _ _ _ c.loop-rest.invariant.0 some _ (sym cut.value) _ c.in_ok-put.ensures.task cut.sizes,
+      c.in_ok-put.ensures.marks,
     )

@@ -12,13 +12,13 @@ use Rattle.task.proofs.place.Task.step.Goals as goal
 pub returns-then-number-len : goal.returns-then-number-len
 returns-then-number-len c = step_missing (value_of c.args.self.now) c.args.state c.args.number (search rules)
 
-pub returns-then-not-is-true : goal.returns-then-not-is-true
-returns-then-not-is-true c =
+pub returns-then-not-is_true : goal.returns-then-not-is_true
+returns-then-not-is_true c =
     let t = c.args.self.now in
     let op = c.index-operator.result.now in
     let one = one_state t.n c.args.state c.states.result c.at-cube.result c.states.ensures c.at-cube.ensures in
     let unfit : false ≡ holds (state c.args.state) (formula_at (nodes_of t) op.precondition) =
-    c.if-not-is-true.ensures ∙ ap sure c.value.ensures.truth ∙ sure_in t.n c.args.state (nodes_of t) (ordered_of t) (partial c.at-cube.result) one op.precondition in
+    c.if-not-is_true.ensures ∙ ap sure c.value.ensures.truth ∙ sure_in t.n c.args.state (nodes_of t) (ordered_of t) (partial c.at-cube.result) one op.precondition in
     step_unfit (value_of t) c.args.state c.args.number op (search rules) c.index-operator.ensures unfit
 
 pub returns : goal.returns
@@ -27,6 +27,6 @@ returns c =
     let op = c.index-operator.result.now in
     let one = one_state t.n c.args.state c.states.result c.at-cube.result c.states.ensures c.at-cube.ensures in
     let fit : true ≡ holds (state c.args.state) (formula_at (nodes_of t) op.precondition) =
-    c.if-not-is-true.ensures ∙ ap sure c.value.ensures.truth ∙ sure_in t.n c.args.state (nodes_of t) (ordered_of t) (partial c.at-cube.result) one op.precondition in
+    c.if-not-is_true.ensures ∙ ap sure c.value.ensures.truth ∙ sure_in t.n c.args.state (nodes_of t) (ordered_of t) (partial c.at-cube.result) one op.precondition in
     step_to (value_of t) c.args.state c.args.number op (search rules) c.index-operator.ensures _ fit
     (c.values.ensures ∙ result_in t.n c.args.state (nodes_of t) (ordered_of t) (partial c.at-cube.result) one op.effect (partial c.successor.result) c.successor.ensures.value)

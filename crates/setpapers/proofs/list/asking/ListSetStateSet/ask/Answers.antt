@@ -12,7 +12,7 @@ returns-else-free-le10 c =
     let s = c.args.self.now in
     let q = partial c.args.cube.now in
     let full : tally (holds_state q) (state_at s.body.now) (states s.body.now) ≡ 2 ^ free_count q → ⊥ = elim c.else-free-le10.branch [
-      | else-free-le10-via-then-free-le10+else-found-free w ↦ λ e. w.if-found-free.false (c.count-in-found.ensures ∙ e ∙ ap (λ n. 2 ^ n) (sym c.free-count-free.ensures) ∙ power_word c.free-count-free.result w.if-free-le10.true)
-      | else-free-le10-via-else-free-le10 w ↦ too_wide s.body.now q s.few (omega (arith, w.if-free-le10.false, c.free-count-free.ensures))
+      | else-free-le10-via-then-free-le10+else-found-free w ↦ λ e. w.if-found-free.false (c.count_in-found.ensures ∙ e ∙ ap (λ n. 2 ^ n) (sym c.free_count-free.ensures) ∙ power_word c.free_count-free.result w.if-free-le10.true)
+      | else-free-le10-via-else-free-le10 w ↦ too_wide s.body.now q s.few (omega (arith, w.if-free-le10.false, c.free_count-free.ensures))
     ] in
-    open_said s.width s.body.now q (omega arith) (λ z. c.if-found-eq0.false (c.count-in-found.ensures ∙ z)) full
+    open_said s.width s.body.now q (omega arith) (λ z. c.if-found-eq0.false (c.count_in-found.ensures ∙ z)) full
