@@ -1,26 +1,26 @@
 //! `jobcard [FILE]`: works the script in FILE, or on standard input.
 #![tactic(auto)]
 
-use anyhow::anyhow;
 use session::lines::Lines;
 use session::run::run;
 use std::io::{BufRead, BufReader};
+use std::process::ExitCode;
 use std::{env, fs};
 
 /// Works the script of a reader; where the run ends early, says at which line and why.
-fn work<R: BufRead + Drop>(rt: &HostRuntime, reader: R) -> anyhow::Result<()> {
+fn work<R: BufRead + Drop>(rt: &HostRuntime, reader: R) -> anyhow::Result<ExitCode> {
     let mut lines = Lines { reader, count: 0 };
     match run(rt, &mut lines) {
-        Ok(()) => Ok(()),
+        Ok(()) => Ok(ExitCode::SUCCESS),
         Err(stop) => {
             let line = lines.count;
             eprintln!(rt; "jobcard: line {line}: {stop}")?;
-            Err(anyhow!("the run ended early"))
+            Ok(ExitCode::FAILURE)
         }
     }
 }
 
-fn main(rt: HostRuntime) -> anyhow::Result<()> {
+fn main(rt: HostRuntime) -> anyhow::Result<ExitCode> {
     let mut args = env::args(&rt)?;
     let _program = args.next();
     let Some(path) = args.next() else {
@@ -28,7 +28,7 @@ fn main(rt: HostRuntime) -> anyhow::Result<()> {
     };
     if args.next().is_some() {
         eprintln!(rt; "jobcard: too many words: write jobcard or jobcard FILE")?;
-        return Err(anyhow!("too many words"));
+        return Ok(ExitCode::FAILURE);
     }
     match fs::open(&rt, path.as_str()) {
         Ok(file) => work(&rt, BufReader::new(rt.alloc(), file)?),
@@ -36,7 +36,7 @@ fn main(rt: HostRuntime) -> anyhow::Result<()> {
             eprintln!(rt;
                 "jobcard: cannot read the script {path}: {error}: name a file that can be read"
             )?;
-            Err(anyhow!("the script cannot be read"))
+            Ok(ExitCode::FAILURE)
         }
     }
 }
