@@ -1,6 +1,6 @@
 -- The planning task: variables, a start, operators with costs, and a goal.
 use Rattle.std.specs.Prelude.{ℕ, ◌^◌, ◌<◌, List}
-use Rattle.std.specs.List.{AllByRecursion as All}
+use Rattle.std.specs.List.{AllByRecursion}
 use Rattle.formulas.specs.Formula.{Formula, Effect}
 use Rattle.formulas.specs.Within.{Within, EffectWithin}
 
@@ -26,5 +26,5 @@ pub record ActionWithin (n : ℕ) (a : Action) : Type 0 where
 -- the start is a state, and every formula and effect has only variables of the task
 pub record WellFormed (m : Model) : Type 0 where
   pub start : m.start < 2 ^ m.variables
-  pub operators : All (ActionWithin m.variables) m.operators
+  pub operators : AllByRecursion (ActionWithin m.variables) m.operators
   pub goal : Within m.variables m.goal

@@ -1,6 +1,6 @@
 -- Every task keeps the rules, and means a planning task that is well formed.
 use Rattle.std.proofs.Common.{◌≡◌, ℕ, ◌≤◌, List, [], ◌∷◌, map, Some, None, vec_items, Option, sym, subst}
-use Rattle.std.specs.List.{AllByRecursion as All}
+use Rattle.std.specs.List.{AllByRecursion}
 use Rattle.formulas.specs.declared.node.Node.{Node}
 use Rattle.formulas.specs.Decode.{Ordered}
 use Rattle.formulas.specs.Within.{Within, formula_within, effect_within}
@@ -24,7 +24,7 @@ sound t = record {
 }
 
 module _ (n : ℕ) (nodes : List Node) (ord : Ordered n nodes) where
-  actions_within : (os : List Operator) → All (ActionWithin n) (map (action nodes) os)
+  actions_within : (os : List Operator) → AllByRecursion (ActionWithin n) (map (action nodes) os)
   actions_within [] = tt
   actions_within (o ∷ os) = (record { precondition = formula_within n nodes ord o.precondition; effect = effect_within n nodes ord o.effect }, actions_within os)
 
