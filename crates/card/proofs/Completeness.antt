@@ -1,22 +1,20 @@
 -- Where no sequence leads to the goal, the list of the reachable states is accepted with its plain proof.
-use Rattle.std.proofs.Common.{◌≡◌, ℕ, zero, suc, ◌≤◌, Bool, true, cond, List, Ok, Err, Result, refl, ap, ◌∙◌, arith}
+use Rattle.std.proofs.Common.{◌≡◌, ℕ, zero, suc, ◌≤◌, Bool, true, cond, List, Ok, Err, refl, ap, ◌∙◌, arith}
 use Rattle.std.proofs.lemmas.Bool.{cond-true, cond-false, le-ltb}
 use Rattle.records.specs.declared.PaperKind.TheVariants.{List as ListPaper, Proof as ProofPaper}
 use Rattle.records.specs.Papers.{Holds}
 use Rattle.records.specs.Single.{and_then}
 use Rattle.records.specs.Walks.{map_err}
 use Rattle.records.proofs.Written.{holds_single}
-use Rattle.setpapers.specs.declared.fault.SetFault.{SetFault}
 use Rattle.setpapers.specs.declared.fault.SetFault.TheVariants.{Record as SetRecord, BadEntry}
 use Rattle.setpapers.specs.Count.{rises}
 use Rattle.setpapers.specs.Lists.{states, state_at, list_verdict, list_answer, list_in}
 use Rattle.setpapers.specs.Papers.{accepted}
 use Rattle.setpapers.specs.Rows.{all, all_parts, first, next}
 use Rattle.planning.specs.Model.{Model, WellFormed}
-use Rattle.planning.specs.Leads.{Unsolvable}
 use Rattle.judge.specs.declared.fault.ProofFault.TheVariants.{Record as ProofRecord}
 use Rattle.judge.specs.Lists.{plain_of}
-use Rattle.judge.specs.Verdict.{body_judged, proof_verdict}
+use Rattle.judge.specs.Verdict.{body_judged}
 use Rattle.judge.proofs.Listed.{list_accepted}
 use Rattle.card.specs.Law.{ListsReachable, Complete}
 

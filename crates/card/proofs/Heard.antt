@@ -1,5 +1,5 @@
 -- A call adds its event.
-use Rattle.std.proofs.Common.{◌≡◌, ℕ, ◌+◌, ◌<◌, Bool, true, false, ◌⊎◌, List, [], ◌∷◌, ◌++◌, length, get_or, take, Some, None, Option, sym, refl, ap, ◌∙◌, subst, inl, inr}
+use Rattle.std.proofs.Common.{◌≡◌, ℕ, ◌+◌, ◌<◌, true, false, List, [], ◌∷◌, ◌++◌, length, get_or, take, Some, None, Option, sym, refl, ap, ◌∙◌, subst, inl, inr}
 use Rattle.std.proofs.lemmas.List.{take_more}
 use Rattle.logic.specs.Partial.{PartialState}
 use Rattle.sets.specs.declared.answer.Answer.{Answer as SetAnswer}
@@ -14,7 +14,7 @@ use Rattle.card.specs.declared.desk.Reply.{Reply}
 use Rattle.card.specs.declared.desk.Reply.TheVariants.{OutOfTurn}
 use Rattle.card.specs.History.{Event, History, walk}
 use Rattle.card.specs.Law.{Keeps, Walks}
-use Rattle.card.specs.Desks.{Stands, in_turn, Made, Heard, Ignored, Next, Follows, Works}
+use Rattle.card.specs.Desks.{Stands, in_turn, Made, Next, Follows, Works}
 
 module _ {C S : Type 0} (K : Kind C) (ask : S → PartialState → SetAnswer) {call shape : Call S} (eq : call ≡ shape) where
   heard : (e : Event C) (reply : Reply C) (h : History C) (w : Option (List ℕ)) → walk h ≡ w → in_turn shape w ≡ true → Made ask shape reply e → Next ask call reply h (e ∷ h)

@@ -1,5 +1,5 @@
 -- The law over every history: each call keeps it.
-use Rattle.std.proofs.Common.{◌≡◌, ℕ, ◌≤◌, Bool, true, false, cond, ◌⊎◌, List, [], ◌∷◌, ◌++◌, length, Some, None, Ok, Err, Option, Result, sym, refl, ap, ◌∙◌, subst, inl, inr, ⊎_elim, arith}
+use Rattle.std.proofs.Common.{◌≡◌, ℕ, ◌≤◌, Bool, true, ◌⊎◌, List, [], ◌∷◌, ◌++◌, length, Some, None, Ok, Err, Option, sym, refl, ap, ◌∙◌, subst, inl, inr, ⊎_elim, arith}
 use Rattle.std.proofs.lemmas.Bool.{cond_both, cond-false, false≢true, le-ltb}
 use Rattle.logic.specs.Partial.{PartialState}
 use Rattle.sets.specs.declared.answer.Answer.{Answer as SetAnswer}
@@ -11,7 +11,6 @@ use Rattle.task.specs.declared.place.Task.{Task}
 use Rattle.task.specs.Held.{model}
 use Rattle.plans.specs.declared.verdict.Reached.{Reached as ReachedState}
 use Rattle.plans.specs.Verdicts.{Answer, begin, next, run, finished as finish_verdict, judged, plan_verdict, steps_in}
-use Rattle.plans.specs.Achieves.{Achieves}
 use Rattle.plans.proofs.Exact.{judged_to, run_to, accepted_to}
 use Rattle.plans.proofs.Running.{run_push, run_few}
 use Rattle.judge.specs.Verdict.{proof_verdict}
@@ -20,7 +19,7 @@ use Rattle.card.specs.declared.card.Walk.{Walk}
 use Rattle.card.specs.declared.card.Verdict.{Verdict}
 use Rattle.card.specs.declared.card.Verdict.TheVariants.{Reached, Impossible}
 use Rattle.card.specs.Cards.{Ruling, opened, better, noted, ruled, set_out, moved}
-use Rattle.card.specs.History.{Event, planned, proved, begun, stepped, finished, given_up, History, In, Costs, Shows, Achieved, Disproved, longer, walk, newest, Right, AllRight}
+use Rattle.card.specs.History.{Event, planned, proved, begun, stepped, finished, given_up, History, In, Costs, Shows, Achieved, Disproved, longer, newest, Right, AllRight}
 use Rattle.card.specs.Law.{Complete, Best, Says, Keeps, Walks}
 
 -- ---- no card shows both cost and mark

@@ -1,5 +1,5 @@
 -- What each call leaves in a card, and in a card on a walk.
-use Rattle.std.specs.Prelude.{Bool, true, false, cond, Some, None, Ok, Err, Option, Result}
+use Rattle.std.specs.Prelude.{true, false, cond, Some, None, Ok, Err, Option, Result}
 use Rattle.costs.specs.Kind.{Kind}
 use Rattle.task.specs.declared.place.Task.{Task}
 use Rattle.task.specs.Held.{model}

@@ -1,5 +1,5 @@
 -- What any row of calls makes of a card.
-use Rattle.std.specs.Prelude.{◌≡◌, ℕ, Bool, true, false, not, ◌⊎◌, List, [], ◌∷◌, is_some, vec_items, Option}
+use Rattle.std.specs.Prelude.{◌≡◌, Bool, true, false, not, ◌⊎◌, List, [], ◌∷◌, is_some, vec_items, Option}
 use Rattle.logic.specs.Partial.{PartialState}
 use Rattle.sets.specs.declared.answer.Answer.{Answer as SetAnswer}
 use Rattle.costs.specs.Kind.{Kind}

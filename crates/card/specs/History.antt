@@ -1,5 +1,5 @@
 -- The history of a card: its lodgings and walk calls since it was opened, with their answers.
-use Rattle.std.specs.Prelude.{◌≡◌, ℕ, Bool, ◌⊎◌, List, [], ◌∷◌, ◌++◌, Some, None, Ok, Err, Option}
+use Rattle.std.specs.Prelude.{◌≡◌, ℕ, ◌⊎◌, List, [], ◌∷◌, ◌++◌, Some, None, Ok, Err, Option}
 use Rattle.logic.specs.Partial.{PartialState}
 use Rattle.sets.specs.declared.answer.Answer.{Answer as SetAnswer}
 use Rattle.costs.specs.Kind.{Kind}

@@ -1,5 +1,5 @@
 -- The law that a card keeps after every history.
-use Rattle.std.specs.Prelude.{◌≡◌, ℕ, ◌≤◌, Bool, true, false, List, Some, None, Ok, Decides, Option, ◌≢◌}
+use Rattle.std.specs.Prelude.{◌≡◌, ℕ, ◌≤◌, true, List, Some, None, Ok, Decides, Option, ◌≢◌}
 use Rattle.records.specs.declared.PaperKind.TheVariants.{List as ListPaper, Proof as ProofPaper}
 use Rattle.records.specs.Papers.{Holds}
 use Rattle.setpapers.specs.Count.{rising}

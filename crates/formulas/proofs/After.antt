@@ -1,13 +1,11 @@
 -- The cube after an effect, and the states after it.
 use Rattle.std.proofs.Common.{◌≡◌, ℕ, ◌-◌, ◌^◌, ◌<◌, ◌≤◌, Bool, true, false, ◌⊎◌, sym, refl, ap, ◌∙◌, subst, inl, inr, arith, pow_pos}
 use Rattle.std.proofs.lemmas.Bool.{cases_lt}
-use Rattle.logic.specs.declared.truth.Truth.{Truth}
-use Rattle.logic.specs.declared.truth.Truth.TheVariants.{Open}
 use Rattle.logic.specs.Bit.{bit}
 use Rattle.logic.specs.BitLaws.{bit_ones}
 use Rattle.logic.specs.Contained.{has_from, has_to, truth_high, truth_single, from_fine, from_truth}
 use Rattle.logic.specs.Kleene.{given, sure, settled}
-use Rattle.logic.specs.Partial.{PartialState, Fine, In, truth, single, cube_of, cube_from}
+use Rattle.logic.specs.Partial.{PartialState, Fine, In, truth, single, cube_of}
 use Rattle.logic.specs.States.{Allows}
 use Rattle.logic.specs.Words.{word, word_below, word_is, bit_word}
 use Rattle.formulas.specs.Formula.{Effect, kleene, holds, after}

@@ -1,5 +1,5 @@
 -- Names claimed one after another, and where names stand among others.
-use Rattle.std.proofs.Common.{◌≡◌, ℕ, ◌+◌, ◌<◌, ◌≤◌, Bool, true, false, cond, not, ◌||◌, eqb, List, [], ◌∷◌, ◌++◌, sym, refl, ap, ◌∙◌, ap₂, append_assoc, arith}
+use Rattle.std.proofs.Common.{◌≡◌, ℕ, ◌+◌, ◌≤◌, Bool, true, false, cond, not, ◌||◌, eqb, List, [], ◌∷◌, ◌++◌, sym, refl, ap, ◌∙◌, append_assoc, arith}
 use Rattle.std.proofs.lemmas.Bool.{not-true, or_parts, eqb-true}
 use Rattle.formulas.specs.declared.node.Node.{Node}
 use Rattle.formulas.specs.Names.{children, node_names, among, clash, claimed, times, Once}

@@ -1,9 +1,9 @@
 -- A node of a table in order stands for what the nodes that it names stand for, joined.
-use Rattle.std.proofs.Common.{◌≡◌, ℕ, zero, suc, ◌<◌, Bool, true, false, ◌&&◌, List, get_or, sym, refl, ap, ◌∙◌, ap₂, arith}
+use Rattle.std.proofs.Common.{◌≡◌, ℕ, zero, suc, ◌<◌, true, List, get_or, refl, ap, ◌∙◌, ap₂, arith}
 use Rattle.std.proofs.lemmas.Bool.{ltb-true, and_parts}
 use Rattle.formulas.specs.declared.node.Node.{Node}
 use Rattle.formulas.specs.declared.node.Node.TheVariants.{False, True, Variable, Not, And, Or, Empty, Set, Clear, Both, When}
-use Rattle.formulas.specs.Formula.{Formula, ff, tr, var, neg, conj, disj, kleene, Effect, skip, put, both, when}
+use Rattle.formulas.specs.Formula.{Formula, neg, conj, disj, kleene, Effect, both, when}
 use Rattle.logic.specs.declared.truth.Truth.{Truth}
 use Rattle.formulas.specs.Decode.{ordered, Ordered, formula, formula_to, formula_at, effect, effect_to, effect_at}
 

@@ -1,7 +1,7 @@
 -- Formulas and effects over numbered variables, and what they mean.
 use Rattle.std.specs.Prelude.{ℕ, Bool, true, false, cond, not, ◌&&◌, ◌||◌, ◌==◌}
 use Rattle.logic.specs.declared.truth.Truth.{Truth}
-use Rattle.logic.specs.declared.truth.Truth.TheVariants.{True, False, Open}
+use Rattle.logic.specs.declared.truth.Truth.TheVariants.{True, False}
 use Rattle.logic.specs.Kleene.{not3, and3, or3}
 
 pub data Formula : Type 0 where

@@ -1,5 +1,5 @@
 -- The rules that each node of a paper keeps: variables, lower nodes, and sorts.
-use Rattle.std.specs.Prelude.{◌≡◌, ℕ, ◌<◌, Bool, true, false, not, ◌&&◌, List, length, take, nat_lt, slice_index_or}
+use Rattle.std.specs.Prelude.{◌≡◌, ℕ, ◌<◌, Bool, true, not, ◌&&◌, List, length, take, nat_lt, slice_index_or}
 use Rattle.formulas.specs.declared.node.Node.{Node}
 use Rattle.formulas.specs.Sorts.{formula_node}
 use Rattle.formulas.specs.declared.node.Node.TheVariants.{False, True, Variable, Not, And, Or, Empty, Set, Clear, Both, When}

@@ -1,6 +1,6 @@
 -- Nodes that keep the rules name only nodes before them.
-use Rattle.std.specs.Prelude.{◌≡◌, ℕ, ◌<◌, ◌≤◌, Bool, true, ◌&&◌, ◌⊎◌, List, length, take, slice_index_or, refl}
-use Rattle.std.proofs.Common.{ap, inl, inr, ⊎_elim, arith, length-take}
+use Rattle.std.specs.Prelude.{◌≡◌, ℕ, ◌<◌, ◌≤◌, true, List, length, take, slice_index_or, refl}
+use Rattle.std.proofs.Common.{ap, ⊎_elim, arith, length-take}
 use Rattle.std.proofs.lemmas.List.{get_or_past}
 use Rattle.std.proofs.lemmas.Bool.{ltb-true, lt-ltb, and_parts, and_from, cases_lt}
 use Rattle.formulas.specs.declared.node.Node.{Node}

@@ -3,7 +3,7 @@ use Rattle.std.specs.Prelude.{ℕ, Bool}
 use Rattle.logic.specs.Bit.{bit}
 use Rattle.logic.specs.Partial.{PartialState, cube_from, truth}
 use Rattle.logic.specs.Words.{word}
-use Rattle.formulas.specs.Formula.{Formula, Effect, holds, kleene, after}
+use Rattle.formulas.specs.Formula.{Effect, holds, kleene, after}
 
 -- the value of variable v in a state
 abbrev pub state : ℕ → ℕ → Bool

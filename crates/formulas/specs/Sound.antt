@@ -1,6 +1,6 @@
 -- What is true in a cube holds in each of its states.
-use Rattle.std.specs.Prelude.{◌≡◌, ℕ, Bool, true, false, not, ◌&&◌, ◌||◌, refl}
-use Rattle.std.proofs.Common.{sym, ap, subst, ◌∙◌}
+use Rattle.std.specs.Prelude.{ℕ, Bool, not, ◌&&◌, ◌||◌, refl}
+use Rattle.std.proofs.Common.{sym, ap, subst}
 use Rattle.std.proofs.lemmas.Bool.{and_left, and_right, or_left, or_right}
 use Rattle.logic.specs.declared.truth.Truth.{Truth}
 use Rattle.logic.specs.declared.truth.Truth.TheVariants.{True, False, Open}

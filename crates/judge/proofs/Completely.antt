@@ -1,11 +1,11 @@
 -- The reachable states of an unsolvable task settle what their plain proof asks.
-use Rattle.std.proofs.Common.{◌≡◌, ℕ, zero, suc, ◌^◌, ◌<◌, ◌≤◌, Bool, true, false, ◌||◌, List, [], ◌∷◌, ◌++◌, length, Some, None, Ok, Option, sym, refl, ap, ◌∙◌, subst, ⊎_elim, arith}
+use Rattle.std.proofs.Common.{◌≡◌, ℕ, zero, suc, ◌^◌, ◌<◌, ◌≤◌, Bool, true, false, List, [], ◌∷◌, ◌++◌, length, Some, Ok, sym, refl, ap, ◌∙◌, subst, ⊎_elim, arith}
 use lib.Bits.{bit_and}
 use Rattle.std.specs.List.{AllByRecursion, slice_get}
 use Rattle.std.proofs.lemmas.Bool.{both_ways, cases_Bool, or_left, or_right}
 use Rattle.logic.specs.Contained.{truth_single}
 use Rattle.logic.specs.Kleene.{given, refuted}
-use Rattle.logic.specs.Partial.{PartialState, Fine, In, truth, single}
+use Rattle.logic.specs.Partial.{PartialState, Fine, truth, single}
 use Rattle.formulas.specs.Formula.{Formula, kleene, holds}
 use Rattle.formulas.specs.Results.{state, result, successor}
 use Rattle.formulas.specs.Within.{Within, kleene_total}
@@ -14,13 +14,13 @@ use Rattle.sets.specs.declared.answer.Answer.{Answer}
 use Rattle.sets.specs.declared.answer.Answer.TheVariants.{Inside, Outside, Open}
 use Rattle.sets.specs.Sets.{Claims, Laws}
 use Rattle.planning.specs.Model.{Action, Model, ActionWithin, WellFormed}
-use Rattle.planning.specs.Leads.{Steps, Reachable, Unsolvable}
+use Rattle.planning.specs.Leads.{Steps, Unsolvable}
 use Rattle.planning.proofs.Reached.{leads_more}
 use Rattle.planning.proofs.Resulting.{results_from}
 use Rattle.judge.specs.Complete.{HasReachable, TellsEmpty}
 use Rattle.judge.specs.Plain.{Finds, plain_body}
 use Rattle.judge.specs.Rules.{is_inside, is_outside, stays, settles}
-use Rattle.judge.specs.Verdict.{start_answer, tree_count, body_judged}
+use Rattle.judge.specs.Verdict.{tree_count, body_judged}
 use Rattle.judge.proofs.Judged.{body_accepted}
 use Rattle.judge.proofs.Plainly.{Settles, plain_proves}
 use Rattle.judge.proofs.Soundly.{fine_single, in_single}

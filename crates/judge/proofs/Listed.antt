@@ -1,7 +1,7 @@
 -- A list tells its empty cubes.
-use Rattle.std.proofs.Common.{◌≡◌, ℕ, zero, suc, ◌+◌, ◌^◌, ◌<◌, ◌≤◌, Bool, true, false, cond, ◌||◌, eqb, List, Ok, sym, refl, ap, ◌∙◌, subst, ap₂, ⊎_elim, arith}
+use Rattle.std.proofs.Common.{◌≡◌, ℕ, zero, suc, ◌+◌, ◌^◌, ◌<◌, ◌≤◌, Bool, true, false, eqb, List, Ok, sym, refl, ap, ◌∙◌, subst, ap₂, ⊎_elim, arith}
 use Rattle.std.proofs.lemmas.Bool.{both_ways, cases_Bool, cond-true, eqb-true, eq-eqb, ltb-true, ltb-false, or_left, or_right}
-use Rattle.logic.specs.Partial.{PartialState, Fine, Holds, In, holds_state, free_count}
+use Rattle.logic.specs.Partial.{PartialState, holds_state, free_count}
 use Rattle.logic.specs.Words.{digit}
 use Rattle.sets.specs.declared.answer.Answer.{Answer}
 use Rattle.sets.specs.declared.answer.Answer.TheVariants.{Outside}

@@ -1,12 +1,12 @@
 -- The plain tree is the one that splits the lowest free variable of each cube that holds a state of the set and is not total.
-use Rattle.std.proofs.Common.{◌≡◌, ℕ, zero, suc, ◌+◌, ◌-◌, ◌^◌, ◌<◌, ◌≤◌, Bool, true, false, cond, not, ltb, ◌⊎◌, sym, refl, ap, ◌∙◌, subst, inl, inr, ⊎_elim, arith}
+use Rattle.std.proofs.Common.{◌≡◌, ℕ, zero, suc, ◌+◌, ◌-◌, ◌^◌, ◌<◌, Bool, true, false, not, ltb, sym, refl, ap, subst, inl, inr, ⊎_elim, arith}
 use lib.Bits.{bit_or}
 use Rattle.std.proofs.lemmas.Bool.{both_ways, cases_lt, cases_order, cond_both, and_left, and_right, le-ltb}
 use Rattle.logic.specs.Bit.{bit}
 use Rattle.logic.specs.BitLaws.{bit_ones}
-use Rattle.logic.specs.Partial.{PartialState, Holds, cube_of, whole, is_free, lower, upper}
+use Rattle.logic.specs.Partial.{PartialState, cube_of, whole, is_free}
 use Rattle.trees.specs.Tree.{Tree, leaf, split}
-use Rattle.judge.specs.Plain.{plain_from, plain_tree, Finds, IsPlain, PlainIsPlain}
+use Rattle.judge.specs.Plain.{plain_from, Finds, IsPlain, PlainIsPlain}
 use Rattle.judge.proofs.Plainly.{known_more, free_next}
 
 -- a variable below v is known, and from the width up there is none

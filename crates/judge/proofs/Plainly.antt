@@ -1,12 +1,12 @@
 -- The plain tree is lawful where the leaf rule settles what it must.
-use Rattle.std.proofs.Common.{◌≡◌, ℕ, zero, suc, ◌+◌, ◌-◌, ◌*◌, ◌^◌, ◌<◌, ◌≤◌, Bool, true, false, cond, not, List, [], ◌∷◌, ◌++◌, length, sym, refl, ap, ◌∙◌, subst, ⊎_elim, mod-eq_of_lt, pow-suc, arith, pow_mono}
-use lib.Bits.{bit_and, bit_or, and_mask, or_shifted_r}
+use Rattle.std.proofs.Common.{◌≡◌, ℕ, zero, suc, ◌+◌, ◌-◌, ◌*◌, ◌^◌, ◌<◌, ◌≤◌, Bool, true, not, List, [], ◌∷◌, ◌++◌, length, sym, refl, ap, ◌∙◌, subst, ⊎_elim, mod-eq_of_lt, pow-suc, arith, pow_mono}
+use lib.Bits.{bit_or, and_mask, or_shifted_r}
 use Rattle.std.specs.List.{flat_map}
 use Rattle.std.proofs.lemmas.Nat.{pow_pos}
 use Rattle.std.proofs.lemmas.Bool.{both_ways, cases_Bool, cond_both, and_from, lt-ltb}
 use Rattle.logic.specs.BitLaws.{bit_high}
-use Rattle.logic.specs.Partial.{PartialState, Fine, Holds, cube_of, whole, single, is_free, lower, upper}
-use Rattle.trees.specs.Tree.{Tree, leaf, split, preorder, Lawful, LawfulEach, Proves}
+use Rattle.logic.specs.Partial.{PartialState, Fine, Holds, cube_of, whole, single, is_free}
+use Rattle.trees.specs.Tree.{Tree, leaf, preorder, Lawful, LawfulEach, Proves}
 use Rattle.judge.specs.Plain.{plain_from, plain_tree, copies, plain_body, Finds}
 
 -- ---- the words of a cube that knows the variables below v

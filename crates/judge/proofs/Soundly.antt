@@ -1,5 +1,5 @@
 -- The set of an accepted proof holds each reachable state, and none of them is a goal state.
-use Rattle.std.proofs.Common.{◌≡◌, ℕ, zero, suc, ◌-◌, ◌^◌, ◌<◌, ◌≤◌, Bool, true, false, ◌||◌, ◌⊎◌, List, [], ◌∷◌, length, Some, None, Option, sym, refl, ap, ◌∙◌, subst, inl, inr, ⊎_elim, mod-eq_of_lt, arith, pow_pos}
+use Rattle.std.proofs.Common.{◌≡◌, ℕ, zero, suc, ◌^◌, ◌<◌, Bool, true, false, List, [], ◌∷◌, length, Some, sym, refl, ap, ◌∙◌, subst, ⊎_elim, mod-eq_of_lt, arith, pow_pos}
 use lib.Bits.{and_mask, and_zero_r}
 use Rattle.std.specs.List.{slice_get}
 use Rattle.std.proofs.lemmas.Bool.{both_ways, or_cases, cases_eq}
@@ -9,16 +9,16 @@ use Rattle.logic.specs.Contained.{has_from, from_fine}
 use Rattle.logic.specs.Kleene.{refuted}
 use Rattle.logic.specs.Partial.{PartialState, Fine, In, truth, whole, single}
 use Rattle.logic.specs.States.{Allows}
-use Rattle.formulas.specs.Formula.{Formula, Effect, kleene, holds, after}
+use Rattle.formulas.specs.Formula.{Formula, kleene, holds, after}
 use Rattle.formulas.specs.Results.{state, result, successor}
 use Rattle.formulas.specs.Sound.{kleene_sound}
 use Rattle.formulas.proofs.After.{successor_has}
 use Rattle.sets.specs.declared.answer.Answer.{Answer}
 use Rattle.sets.specs.declared.answer.Answer.TheVariants.{Inside, Outside, Open}
 use Rattle.sets.specs.Sets.{Claims, Laws}
-use Rattle.trees.specs.Covers.{Settled, EachCovers}
-use Rattle.planning.specs.Model.{Action, Model, WellFormed}
-use Rattle.planning.specs.Leads.{Steps, Reachable, Unsolvable, AtGoal}
+use Rattle.trees.specs.Covers.{EachCovers}
+use Rattle.planning.specs.Model.{Model, WellFormed}
+use Rattle.planning.specs.Leads.{Steps, Reachable}
 use Rattle.planning.proofs.Reached.{stays as stays_in}
 use Rattle.planning.proofs.Resulting.{results_is}
 use Rattle.judge.specs.Rules.{is_inside, is_outside, stays, settles}

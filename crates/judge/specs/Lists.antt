@@ -9,7 +9,7 @@ use Rattle.setpapers.specs.Lists.{states, state_at, list_has, list_answer}
 use Rattle.planning.specs.Model.{Model}
 use Rattle.planning.specs.Leads.{Unsolvable}
 use Rattle.judge.specs.Complete.{HasReachable}
-use Rattle.judge.specs.Plain.{Finds, PlainIsPlain, plain_body}
+use Rattle.judge.specs.Plain.{PlainIsPlain, plain_body}
 use Rattle.judge.specs.Verdict.{tree_count}
 
 -- the cube holds a state that the bytes list

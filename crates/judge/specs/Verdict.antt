@@ -1,5 +1,5 @@
 -- The verdict on a proof, and when it is accepted.
-use Rattle.std.specs.Prelude.{◌≡◌, ℕ, suc, cond, List, length, Ok, Err, Result}
+use Rattle.std.specs.Prelude.{◌≡◌, ℕ, suc, cond, List, length, Err, Result}
 use Rattle.records.specs.declared.PaperKind.TheVariants.{Proof}
 use Rattle.records.specs.Papers.{Holds}
 use Rattle.records.specs.Single.{and_then, single_in}

@@ -1,5 +1,5 @@
 -- A cube after a change, on whole words.
-use Rattle.std.proofs.Common.{◌≡◌, ℕ, ◌-◌, ◌^◌, ◌<◌, ◌≤◌, Bool, true, false, cond, not, ◌&&◌, ◌||◌, sym, refl, ap, ◌∙◌, ap₂, lt_of_le_of_lt, arith, pow_pos}
+use Rattle.std.proofs.Common.{◌≡◌, ℕ, ◌-◌, ◌^◌, ◌<◌, ◌≤◌, Bool, true, false, cond, not, ◌&&◌, ◌||◌, refl, ap, ◌∙◌, ap₂, lt_of_le_of_lt, arith, pow_pos}
 use lib.Bits.{bit_and, bit_or, and_le_r}
 use Rattle.std.proofs.lemmas.Bool.{false≢true, or_left}
 use Rattle.logic.specs.declared.truth.Truth.{Truth}

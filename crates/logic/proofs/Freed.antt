@@ -1,12 +1,12 @@
 -- A variable freed, on whole words.
-use Rattle.std.proofs.Common.{◌≡◌, ℕ, ◌-◌, ◌*◌, ◌%◌, ◌^◌, ◌<◌, ◌≤◌, Bool, true, false, cond, not, ◌&&◌, eqb, ◌⊎◌, sym, refl, ap, ◌∙◌, ap₂, inl, inr, lt_of_le_of_lt, arith}
-use lib.Bits.{bit_and, and_le_l}
+use Rattle.std.proofs.Common.{◌≡◌, ℕ, ◌-◌, ◌*◌, ◌%◌, ◌^◌, ◌<◌, ◌≤◌, Bool, true, false, cond, not, ◌&&◌, eqb, ◌⊎◌, sym, refl, ap, ◌∙◌, ap₂, inl, inr, arith}
+use lib.Bits.{bit_and}
 use Rattle.std.proofs.lemmas.Nat.{one_shl, pow_below}
 use Rattle.std.proofs.lemmas.Bool.{cases_lt, ne_eqb}
 use Rattle.logic.specs.declared.truth.Truth.TheVariants.{Open}
 use Rattle.logic.specs.Bit.{bit}
 use Rattle.logic.specs.BitLaws.{bit-bit_and, bit_not, bit_power, bit_high, bits_lt, and_part, part_known}
-use Rattle.logic.specs.Contained.{cube_from_lem, truth_high}
+use Rattle.logic.specs.Contained.{cube_from_lem}
 use Rattle.logic.specs.Kleene.{given}
 use Rattle.logic.specs.Partial.{PartialState, Fine, cube_of, truth, freed}
 

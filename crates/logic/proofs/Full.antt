@@ -1,9 +1,9 @@
 -- The cube of one state, on whole words.
-use Rattle.std.proofs.Common.{◌≡◌, ℕ, ◌-◌, ◌%◌, ◌^◌, ◌<◌, sym, refl, ap, ◌∙◌, ap₂, arith, pow_pos}
+use Rattle.std.proofs.Common.{◌≡◌, ℕ, ◌-◌, ◌%◌, ◌^◌, ◌<◌, sym, ap, ◌∙◌, arith, pow_pos}
 use lib.Bits.{bit_and, and_le_r, and_mask}
 use Rattle.std.proofs.lemmas.Bool.{and_parts}
 use Rattle.logic.specs.BitLaws.{bit-bit_and, and_part}
-use Rattle.logic.specs.Partial.{PartialState, Fine, cube_of, single}
+use Rattle.logic.specs.Partial.{Fine, cube_of, single}
 
 module _ (w full s : ℕ) (is : full ≡ 2 ^ w - 1) where
   pub full_fine : Fine (cube_of w full (bit_and s full))

@@ -1,12 +1,12 @@
 -- What a split does to a cube's free variables.
-use Rattle.std.proofs.Common.{◌≡◌, ℕ, suc, ◌+◌, ◌-◌, ◌*◌, ◌/◌, ◌%◌, ◌^◌, ◌<◌, ◌≤◌, max, Bool, true, false, not, eqb, ltb, sym, refl, ap, ◌∙◌, subst, arith}
+use Rattle.std.proofs.Common.{◌≡◌, ℕ, suc, ◌+◌, ◌*◌, ◌/◌, ◌%◌, ◌^◌, ◌<◌, max, Bool, true, false, not, ltb, sym, refl, ap, ◌∙◌, arith}
 use lib.Bits.{bit_and, bit_or, or_step, or_zero_r, or_block, or_lt}
 use lib.Count.{ones, ones_step, ones_cat, ones-ones, ones-le}
-use Rattle.std.proofs.lemmas.Bool.{and_parts, ltb-true, eqb-true}
+use Rattle.std.proofs.lemmas.Bool.{and_parts, ltb-true}
 use Rattle.std.proofs.lemmas.Nat.{shr_split, mod_below, pow_pos, pow_below}
 use Rattle.logic.specs.Bit.{bit}
 use Rattle.logic.specs.BitLaws.{bit_none}
-use Rattle.logic.specs.Partial.{PartialState, Fine, cube_of, whole, is_free, free_count, lower, upper}
+use Rattle.logic.specs.Partial.{PartialState, Fine, whole, is_free, free_count, lower, upper}
 use Rattle.logic.proofs.Parts.{and_pow, part_without, part_with}
 
 ones_odd : (m : ℕ) → ones (m * 2 + 1) ≡ ones m + 1

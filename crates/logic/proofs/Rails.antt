@@ -1,8 +1,8 @@
 -- Truths by their two rails, `sure` and `maybe`.
-use Rattle.std.proofs.Common.{◌≡◌, Bool, true, false, ◌&&◌, ◌||◌, sym, refl, ap, ◌∙◌, ap₂}
+use Rattle.std.proofs.Common.{◌≡◌, Bool, true, false, ◌||◌, refl}
 use Rattle.logic.specs.declared.truth.Truth.{Truth}
 use Rattle.logic.specs.declared.truth.Truth.TheVariants.{True, False, Open}
-use Rattle.logic.specs.Kleene.{not3, and3, or3, given}
+use Rattle.logic.specs.Kleene.{and3, or3, given}
 use Rattle.logic.specs.Kleene.{sure, maybe}
 
 pub sure_given : (b : Bool) → sure (given b) ≡ b

@@ -1,6 +1,6 @@
 -- A cube and the truths of its variables.
 use Rattle.std.specs.Prelude.{◌≡◌, ℕ, ◌-◌, ◌%◌, ◌^◌, ◌<◌, ◌≤◌, Bool, true, false, cond, ◌&&◌, ◌≢◌, refl}
-use Rattle.std.proofs.Common.{sym, ap, ap₂, subst, ◌∙◌, lt_of_le_of_lt, arith}
+use Rattle.std.proofs.Common.{sym, ap, ap₂, ◌∙◌, lt_of_le_of_lt, arith}
 use Rattle.std.specs.Int.Bits.{bit_and}
 use Rattle.std.proofs.lemmas.Nat.{and_le_r, and_mask}
 use Rattle.std.proofs.lemmas.Bool.{false≢true}
@@ -8,7 +8,7 @@ use Rattle.logic.specs.declared.truth.Truth.{Truth}
 use Rattle.logic.specs.declared.truth.Truth.TheVariants.{True, False, Open}
 use Rattle.logic.specs.Bit.{bit}
 use Rattle.logic.specs.Kleene.{given, sure, settled}
-use Rattle.logic.specs.Partial.{PartialState, Fine, cube_of, seen, truth, single, cube_from, Holds}
+use Rattle.logic.specs.Partial.{PartialState, Fine, cube_of, truth, single, cube_from, Holds}
 use Rattle.logic.specs.States.{Allows, Has, Settled}
 use Rattle.logic.specs.BitLaws.{bit-bit_and, bit_ones, bit_high, bit_ext, and_part, part_known}
 use Rattle.logic.specs.Words.{word, word_below, word_is, bit_word}

@@ -1,7 +1,7 @@
 -- Cubes of states: a state is a number, and variable v is its digit v.
-use Rattle.std.specs.Prelude.{◌≡◌, ℕ, ◌-◌, ◌^◌, ◌<◌, Bool, true, false, cond, not, ◌&&◌, ◌==◌, bit_and, bit_or, count_ones, nat_lt}
+use Rattle.std.specs.Prelude.{◌≡◌, ℕ, ◌-◌, ◌^◌, ◌<◌, Bool, cond, not, ◌&&◌, ◌==◌, bit_and, bit_or, count_ones, nat_lt}
 use Rattle.logic.specs.declared.truth.Truth.{Truth}
-use Rattle.logic.specs.declared.truth.Truth.TheVariants.{True, False, Open}
+use Rattle.logic.specs.declared.truth.Truth.TheVariants.{Open}
 use Rattle.logic.specs.Bit.{bit}
 use Rattle.logic.specs.Kleene.{not3, and3, or3, given, sure, settled}
 use Rattle.logic.specs.Words.{word}

@@ -1,5 +1,5 @@
 -- How many layers a layered set has, which its parts have fewer of.
-use Rattle.std.proofs.Common.{◌≡◌, ℕ, ◌+◌, ◌<◌, Box, refl, ap, arith}
+use Rattle.std.proofs.Common.{◌≡◌, ℕ, ◌+◌, ◌<◌, Box, ap, arith}
 use Rattle.std.specs.declared.alloc.Global.{Global}
 use Rattle.mixedsets.specs.declared.layered.LayeredSet.{LayeredSet, Complement, Meeting, Joining}
 use Rattle.mixedsets.specs.declared.layered.LayeredSet.TheVariants.{Paper, Complement', Meeting', Joining'}

@@ -1,5 +1,5 @@
 -- Sets of the three kinds, by their papers: a paper that breaks a rule is the empty set.
-use Rattle.std.specs.Prelude.{◌≡◌, ℕ, Bool, true, List, Ok, Err, vec_items, Result, refl}
+use Rattle.std.specs.Prelude.{◌≡◌, ℕ, Bool, List, Ok, Err, vec_items, Result, refl}
 use Rattle.records.specs.declared.PaperKind.TheVariants.{List as ListPaper, Diagram as DiagramPaper, Formula as FormulaPaper}
 use Rattle.logic.specs.Partial.{PartialState}
 use Rattle.sets.specs.declared.answer.Answer.{Answer}

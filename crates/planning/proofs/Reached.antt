@@ -1,7 +1,7 @@
 -- The reachable states are the least closed set that holds the start.
 use Rattle.std.proofs.Common.{◌≡◌, ℕ, Bool, true, List, [], ◌∷◌, ◌++◌, sym, refl, subst}
 use Rattle.planning.specs.Model.{Model}
-use Rattle.planning.specs.Leads.{Steps, Leads, Reachable, Least, ReachableLeast}
+use Rattle.planning.specs.Leads.{Steps, Leads, ReachableLeast}
 
 -- a step after a sequence
 pub leads_more : (m : Model) (s : ℕ) (os : List ℕ) (t o u : ℕ) → Leads m s os t → Steps m t o u → Leads m s (os ++ (o ∷ [])) u

@@ -1,5 +1,5 @@
 -- The resulting state is one, and only one.
-use Rattle.std.proofs.Common.{◌≡◌, ℕ, ◌<◌, Bool, true, false, not, ◌&&◌, ◌||◌, sym, refl, ap, ◌∙◌, ap₂}
+use Rattle.std.proofs.Common.{◌≡◌, ℕ, Bool, true, false, not, ◌&&◌, ◌||◌, sym, refl, ap, ◌∙◌, ap₂}
 use Rattle.formulas.specs.Formula.{Effect, holds, sets, clears, after}
 use Rattle.formulas.specs.Results.{state, result}
 use Rattle.logic.specs.Words.{bit_word, word_below, word_is}

@@ -1,25 +1,22 @@
 -- A plan is accepted exactly when it leads to the goal.
-use Rattle.std.proofs.Common.{◌≡◌, ℕ, ◌+◌, ◌<◌, ◌≤◌, Bool, true, false, cond, ltb, List, [], ◌∷◌, length, get_or, Some, None, Ok, Err, Option, Result, sym, refl, ap, ◌∙◌, subst, ap₂, arith}
+use Rattle.std.proofs.Common.{◌≡◌, ℕ, ◌+◌, ◌<◌, ◌≤◌, Bool, true, false, cond, ltb, List, [], ◌∷◌, length, get_or, Some, None, Ok, Err, Option, Result, sym, refl, ap, ◌∙◌, subst, arith}
 use Rattle.std.proofs.lemmas.Bool.{cond-true, cond-false, lt-ltb, le-ltb, ltb-true}
 use Rattle.std.specs.List.{slice_get}
 use Rattle.records.specs.declared.PaperKind.TheVariants.{Plan}
 use Rattle.records.specs.Single.{and_then, single_in}
 use Rattle.records.specs.Walks.{map_err}
 use Rattle.records.proofs.Written.{single_holds, holds_single}
-use Rattle.records.specs.declared.RecordFault.{RecordFault}
 use Rattle.costs.specs.Kind.{Kind}
 use Rattle.formulas.specs.Formula.{holds}
 use Rattle.formulas.specs.Results.{state, result}
-use Rattle.task.specs.declared.stepping.Step.{Step}
-use Rattle.task.specs.declared.stepping.Step.TheVariants.{Missing, Inapplicable, To}
+use Rattle.task.specs.declared.stepping.Step.TheVariants.{Inapplicable, To}
 use Rattle.task.specs.Meaning.{tried, arrived}
 use Rattle.planning.specs.Model.{Action, Model}
 use Rattle.planning.specs.Leads.{Steps, Leads}
 use Rattle.planning.proofs.Resulting.{results_from, results_is}
 use Rattle.plans.specs.declared.verdict.Reached.{Reached}
-use Rattle.plans.specs.declared.verdict.PlanFault.{PlanFault}
 use Rattle.plans.specs.declared.verdict.PlanFault.TheVariants.{Record, TooManySteps, GoalFalse}
-use Rattle.plans.specs.Verdicts.{Answer, reached, steps_in, charged, taken, next, run, begin, finished, judged, plan_verdict}
+use Rattle.plans.specs.Verdicts.{reached, steps_in, charged, taken, next, run, begin, finished, judged, plan_verdict}
 use Rattle.plans.specs.Achieves.{if_some, cost_from, Achieves, Accepted, Exact}
 
 cond_ok : {X E : Type 0} (b : Bool) (x : Result X E) (f : E) (q : X) → cond b x (Err f) ≡ Ok q → (b ≡ true) × (x ≡ Ok q)

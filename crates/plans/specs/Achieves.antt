@@ -1,5 +1,5 @@
 -- Which plans are accepted, and with what.
-use Rattle.std.specs.Prelude.{◌≡◌, ℕ, ◌≤◌, true, List, [], ◌∷◌, length, Some, None, Ok, Err, Option}
+use Rattle.std.specs.Prelude.{◌≡◌, ℕ, ◌≤◌, true, List, [], ◌∷◌, length, Some, None, Ok, Option}
 use Rattle.std.specs.List.{slice_get}
 use Rattle.records.specs.declared.PaperKind.TheVariants.{Plan}
 use Rattle.records.specs.Papers.{Holds}

@@ -1,5 +1,5 @@
 -- What a judge of plans answers.
-use Rattle.std.specs.Prelude.{ℕ, ◌+◌, Bool, cond, List, [], ◌∷◌, length, Some, None, Ok, Err, Option, Result, nat_lt}
+use Rattle.std.specs.Prelude.{ℕ, ◌+◌, cond, List, [], ◌∷◌, length, Some, None, Ok, Err, Option, Result, nat_lt}
 use Rattle.records.specs.Cuts.{le2}
 use Rattle.records.specs.declared.PaperKind.TheVariants.{Plan}
 use Rattle.records.specs.Single.{and_then, single_in}

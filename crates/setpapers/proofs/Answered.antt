@@ -1,9 +1,9 @@
 -- One entry more of a diagram is answered.
-use Rattle.std.proofs.Common.{◌≡◌, ℕ, ◌+◌, ◌<◌, ◌≤◌, Bool, true, false, ◌≢◌, List, length, get_or, set, sym, refl, ap, ◌∙◌, ap₂, arith, below_more}
+use Rattle.std.proofs.Common.{◌≡◌, ℕ, ◌+◌, ◌<◌, true, ◌≢◌, List, length, get_or, set, sym, refl, ap, ◌∙◌, ap₂, arith, below_more}
 use Rattle.std.proofs.lemmas.List.{get_or-set_same, get_or-set_other}
 use Rattle.logic.specs.declared.truth.Truth.{Truth}
 use Rattle.sets.specs.declared.answer.Answer.{Answer}
-use Rattle.sets.specs.declared.answer.Answer.TheVariants.{Inside, Outside, Open}
+use Rattle.sets.specs.declared.answer.Answer.TheVariants.{Inside, Outside}
 use Rattle.setpapers.specs.declared.entry.Entry.{Entry}
 use Rattle.setpapers.specs.Rows.{all, all-at}
 use Rattle.setpapers.specs.Decisions.{out, inn, pick, answers, Decision}

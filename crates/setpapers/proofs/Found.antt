@@ -1,6 +1,6 @@
 -- A reader's answer says which rule is broken first.
-use Rattle.std.proofs.Common.{◌≡◌, ℕ, zero, suc, ◌<◌, ◌≤◌, Bool, true, false, cond, ◌&&◌, ltb, ◌⊎◌, List, Ok, Err, Result, sym, refl, ap, ◌∙◌, subst, inl, inr, ⊎_elim, arith}
-use Rattle.std.proofs.lemmas.Bool.{and_parts, and_from, ltb-true, ltb-false, cases_Bool, both_ways}
+use Rattle.std.proofs.Common.{◌≡◌, ℕ, zero, suc, ◌<◌, ◌≤◌, Bool, true, false, ltb, List, Ok, Err, Result, sym, refl, ap, ◌∙◌, subst, inl, inr, ⊎_elim, arith}
+use Rattle.std.proofs.lemmas.Bool.{and_from, ltb-true, ltb-false, cases_Bool, both_ways}
 use Rattle.records.specs.declared.PaperKind.{PaperKind}
 use Rattle.records.specs.declared.RecordFault.{RecordFault}
 use Rattle.records.specs.Papers.{Holds, Exact}
@@ -9,7 +9,7 @@ use Rattle.records.specs.Walks.{map_err}
 use Rattle.setpapers.specs.declared.fault.SetFault.{SetFault}
 use Rattle.setpapers.specs.declared.fault.SetFault.TheVariants.{Record, TooMany, BadEntry}
 use Rattle.setpapers.specs.Papers.{accepted, body_in, answered, Judged, Found}
-use Rattle.setpapers.specs.Rows.{all, all-at, all_suc, all_parts, first, verdict}
+use Rattle.setpapers.specs.Rows.{all, all_parts, first, verdict}
 use Rattle.setpapers.specs.Verdicts.{first_fine, first_bad}
 
 -- ---- what is in a paper

@@ -1,8 +1,7 @@
 -- What the tests of the list tell.
-use Rattle.std.proofs.Common.{◌≡◌, ℕ, zero, suc, ◌*◌, ◌/◌, ◌%◌, ◌^◌, ◌<◌, ◌≤◌, Bool, true, false, cond, eqb, ltb, List, sym, refl, ap, ◌∙◌, subst, ⊎_elim, div-lt_iff_lt-mul, one-mul, arith, pow_pos, pow_mono}
-use Rattle.std.proofs.lemmas.Bool.{cases_lt, lt-ltb, le-ltb, eq-eqb, ne_eqb, cond-true, cond-false}
+use Rattle.std.proofs.Common.{◌≡◌, ℕ, ◌*◌, ◌%◌, ◌^◌, ◌<◌, ◌≤◌, cond, eqb, List, sym, refl, ◌∙◌, arith, pow_mono}
+use Rattle.std.proofs.lemmas.Bool.{eq-eqb, ne_eqb, cond-true, cond-false}
 use Rattle.logic.specs.Partial.{PartialState, free_count, holds_state}
-use Rattle.sets.specs.declared.answer.Answer.{Answer}
 use Rattle.sets.specs.declared.answer.Answer.TheVariants.{Inside, Outside, Open}
 use Rattle.setpapers.specs.Count.{tally}
 use Rattle.setpapers.specs.Counted.{tally_bound}

@@ -1,10 +1,10 @@
 -- One node more of a formula is read.
-use Rattle.std.proofs.Common.{◌≡◌, ℕ, zero, suc, ◌+◌, ◌<◌, ◌≤◌, Bool, true, false, cond, not, ◌&&◌, ◌||◌, eqb, ltb, List, [], ◌∷◌, Some, None, Option, sym, refl, ap, ◌∙◌, subst, ⊎_elim, add-one, arith}
-use Rattle.std.proofs.lemmas.Bool.{and_parts, and_from, or_from, or_cases, ltb-true, eq-eqb, eqb-true, cases_Bool, both_ways, not-true, not_from_false}
+use Rattle.std.proofs.Common.{◌≡◌, ℕ, zero, suc, ◌+◌, ◌<◌, ◌≤◌, Bool, true, false, cond, not, ◌&&◌, eqb, ltb, List, [], ◌∷◌, Some, None, Option, sym, refl, ap, ◌∙◌, ⊎_elim, add-one, arith}
+use Rattle.std.proofs.lemmas.Bool.{and_parts, and_from, or_from, or_cases, ltb-true, eq-eqb, both_ways, not-true, not_from_false}
 use Rattle.formulas.specs.declared.node.Node.{Node}
 use Rattle.formulas.specs.declared.node.Node.TheVariants.{False, True, Variable, Not, And, Or, Empty, Set, Clear, Both, When}
 use Rattle.formulas.specs.Decode.{ordered}
-use Rattle.formulas.specs.Marks.{Marks, Claimed}
+use Rattle.formulas.specs.Marks.{Claimed}
 use Rattle.formulas.specs.Names.{children, among, clash, claimed, Each, times, Once}
 use Rattle.formulas.specs.Sorts.{formula_node}
 use Rattle.formulas.proofs.Claims.{once_claimed}

@@ -1,5 +1,5 @@
 -- The nodes of a formula's bytes, and its root.
-use Rattle.std.proofs.Common.{◌≡◌, ℕ, zero, suc, ◌-◌, ◌<◌, ◌≤◌, eqb, List, length, get_or, sym, refl, ap, ◌∙◌, arith}
+use Rattle.std.proofs.Common.{◌≡◌, ℕ, zero, suc, ◌-◌, ◌<◌, ◌≤◌, eqb, List, get_or, sym, refl, ap, ◌∙◌, arith}
 use Rattle.std.proofs.lemmas.List.{get_or_past}
 use Rattle.std.proofs.lemmas.Bool.{eq-eqb, cond-true}
 use Rattle.logic.specs.declared.truth.Truth.{Truth}
@@ -8,7 +8,6 @@ use Rattle.formulas.specs.declared.node.Node.{Node}
 use Rattle.formulas.specs.declared.node.Node.TheVariants.{False}
 use Rattle.formulas.specs.Decode.{formula_at}
 use Rattle.formulas.specs.Formula.{kleene}
-use Rattle.sets.specs.declared.answer.Answer.{Answer}
 use Rattle.sets.specs.declared.answer.Answer.TheVariants.{Outside}
 use Rattle.setpapers.specs.Diagrams.{entries}
 use Rattle.setpapers.specs.Tabled.{length_table, get_or_table}

@@ -1,5 +1,5 @@
 -- The rule of each kind's entries is what its reader tests.
-use Rattle.std.proofs.Common.{◌≡◌, ℕ, zero, suc, ◌+◌, ◌-◌, ◌^◌, ◌<◌, ◌≤◌, Bool, true, false, cond, not, ◌&&◌, ◌||◌, eqb, ltb, ◌⊎◌, List, [], ◌∷◌, Ok, Err, Result, sym, refl, ap, ◌∙◌, subst, inl, inr, ⊎_elim, arith}
+use Rattle.std.proofs.Common.{◌≡◌, ℕ, zero, suc, ◌-◌, ◌^◌, ◌<◌, true, false, ◌&&◌, ltb, List, sym, refl, subst, inl, inr, ⊎_elim, arith}
 use Rattle.std.proofs.lemmas.Bool.{and_parts, and_from, or_cases, or_left, or_right, ltb-true, ltb-false, lt-ltb, cases_Bool, both_ways}
 use Rattle.records.specs.declared.PaperKind.TheVariants.{List as ListPaper, Diagram as DiagramPaper, Formula as FormulaPaper}
 use Rattle.records.specs.Papers.{Exact}
@@ -10,7 +10,7 @@ use Rattle.setpapers.specs.Diagrams.{entries, entry_at, lawful_child, lawful, di
 use Rattle.setpapers.specs.FormulaSets.{lawful_at, formula_verdict, formula_in, FormulaNode}
 use Rattle.setpapers.specs.Lists.{states, state_at, list_verdict, list_in, ListedState}
 use Rattle.setpapers.specs.Papers.{answered, Found}
-use Rattle.setpapers.specs.Rows.{all, all_parts}
+use Rattle.setpapers.specs.Rows.{all_parts}
 use Rattle.setpapers.proofs.Naming.{formula_node_to, formula_node_from}
 use Rattle.setpapers.proofs.Found.{verdict_judged, paper_found}
 

@@ -1,14 +1,14 @@
 -- The counting law: rising entries of a width that lie in a cube number at most 2 ^ free, and just then all are listed.
 use Rattle.std.specs.Prelude.{◌≡◌, ℕ, zero, suc, ◌+◌, ◌-◌, ◌*◌, ◌/◌, ◌%◌, ◌^◌, ◌<◌, ◌≤◌, Bool, true, false, ◌&&◌, ◌||◌, ◌⊎◌, ◌==◌, ◌≢◌, bit_and, count_ones, nat_eq, nat_lt}
 use Rattle.std.proofs.Math.Path.{refl, sym, ap}
-use Rattle.std.proofs.Common.{ap₂, subst, ◌∙◌, inl, inr, add-zero, pow-suc, div-add-mod', add-one, arith, pow_pos, shr_lt}
+use Rattle.std.proofs.Common.{subst, ◌∙◌, inl, inr, add-zero, pow-suc, div-add-mod', add-one, arith}
 use Rattle.std.proofs.Math.Logic.{⊎_elim}
 use Rattle.std.specs.Int.Bits.{and_step, and_zero_r}
 use Rattle.std.specs.Int.Count.{ones_step, ones-ones}
 use Rattle.std.proofs.lemmas.Nat.{ones-le}
-use Rattle.std.proofs.lemmas.Bool.{both_ways, eqb-true, eqb-false, eq-eqb, ne_eqb, ltb-true, lt-ltb, cases_Bool, and_parts, and_from, and_left, and_right, or_cases, or_parts, or_left, or_right, or_from, cases_eq}
+use Rattle.std.proofs.lemmas.Bool.{both_ways, eqb-true, eq-eqb, ne_eqb, ltb-true, cases_Bool, and_parts, and_right, or_cases, cases_eq}
 use Rattle.logic.specs.Words.{digit}
-use Rattle.setpapers.specs.Rows.{all, all_parts}
+use Rattle.setpapers.specs.Rows.{all_parts}
 use Rattle.setpapers.specs.Count.{card, meets, tally, listed, above, rises, rising}
 
 -- ---- halves

@@ -1,6 +1,6 @@
 -- A diagram keeps the laws of a set.
-use Rattle.std.specs.Prelude.{◌≡◌, ℕ, zero, suc, ◌+◌, ◌-◌, ◌<◌, ◌≤◌, Bool, true, false, cond, ◌&&◌, ◌||◌, ltb, ◌⊎◌, ◌==◌, ◌≢◌, nat_lt, refl}
-use Rattle.std.proofs.Common.{sym, ap, ap₂, subst, ◌∙◌, inl, inr, ⊎_elim, arith}
+use Rattle.std.specs.Prelude.{◌≡◌, ℕ, zero, suc, ◌+◌, ◌-◌, ◌<◌, Bool, true, false, cond, ◌&&◌, ltb, ◌⊎◌, ◌==◌, ◌≢◌, nat_lt, refl}
+use Rattle.std.proofs.Common.{sym, ap₂, subst, inl, inr, ⊎_elim, arith}
 use Rattle.std.proofs.lemmas.Bool.{and_parts, or_cases, ltb-true, eq-eqb, ne_eqb, cases_eq, cond-true, cond-false}
 use Rattle.logic.specs.declared.truth.Truth.{Truth}
 use Rattle.logic.specs.declared.truth.Truth.TheVariants.{True, False, Open as Unknown}
@@ -8,7 +8,7 @@ use Rattle.logic.specs.States.{Allows, Has, Settled}
 use Rattle.sets.specs.declared.answer.Answer.{Answer}
 use Rattle.sets.specs.declared.answer.Answer.TheVariants.{Inside, Outside, Open}
 use Rattle.sets.specs.Sets.{Laws}
-use Rattle.sets.specs.Told.{Says, Sound, states_where, told, told_laws}
+use Rattle.sets.specs.Told.{Says, states_where, told, told_laws}
 use Rattle.setpapers.specs.declared.entry.Entry.{Entry}
 use Rattle.setpapers.specs.Rows.{all, all-at}
 use Rattle.setpapers.specs.Decisions.{Decision, out, inn, test, picks, agree, pick, answers, Below}

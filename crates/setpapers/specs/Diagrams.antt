@@ -1,5 +1,5 @@
 -- A decision diagram: what its bytes hold, which decision it stands for, and its rules.
-use Rattle.std.specs.Prelude.{◌≡◌, ℕ, zero, suc, ◌+◌, ◌-◌, ◌*◌, ◌/◌, ◌<◌, Bool, true, false, cond, ◌&&◌, ◌||◌, ◌⊎◌, List, length, Result, ◌==◌, nat_lt, slice_index}
+use Rattle.std.specs.Prelude.{◌≡◌, ℕ, zero, suc, ◌+◌, ◌-◌, ◌*◌, ◌/◌, ◌<◌, Bool, cond, ◌&&◌, ◌||◌, ◌⊎◌, List, length, Result, ◌==◌, nat_lt, slice_index}
 use Rattle.records.specs.declared.PaperKind.TheVariants.{Diagram as DiagramPaper}
 use Rattle.logic.specs.Partial.{PartialState}
 use Rattle.sets.specs.declared.answer.Answer.{Answer}

@@ -1,5 +1,5 @@
 -- A formula keeps the laws of a set.
-use Rattle.std.specs.Prelude.{◌≡◌, ℕ, zero, suc, ◌<◌, ◌≤◌, Bool, true, false, ◌&&◌, List, length, Some, None, Option, ◌≢◌, refl}
+use Rattle.std.specs.Prelude.{◌≡◌, ℕ, zero, suc, ◌<◌, ◌≤◌, Bool, true, false, List, Some, None, Option, ◌≢◌, refl}
 use Rattle.std.proofs.Common.{sym, ap, subst, ◌∙◌, ⊎_elim, arith}
 use Rattle.std.proofs.lemmas.List.{get_or_past}
 use Rattle.std.proofs.lemmas.Bool.{and_parts, cases_lt}
@@ -11,7 +11,6 @@ use Rattle.formulas.specs.declared.node.Node.{Node}
 use Rattle.formulas.specs.declared.node.Node.TheVariants.{False as no_node}
 use Rattle.formulas.specs.Decode.{ordered, Ordered}
 use Rattle.formulas.specs.Formula.{Formula, kleene, holds}
-use Rattle.formulas.specs.Names.{children, clash}
 use Rattle.formulas.specs.Sorts.{formula_node}
 use Rattle.formulas.specs.Sound.{kleene_sound}
 use Rattle.formulas.specs.Within.{Within, kleene_total, formula_within}
@@ -21,7 +20,7 @@ use Rattle.sets.specs.Sets.{Laws}
 use Rattle.sets.specs.Told.{Says, told_laws}
 use Rattle.setpapers.specs.Rows.{all, all-at}
 use Rattle.setpapers.specs.Diagrams.{entries}
-use Rattle.setpapers.specs.Tabled.{table, length_table, get_or_table}
+use Rattle.setpapers.specs.Tabled.{length_table, get_or_table}
 use Rattle.setpapers.specs.FormulaSets.{decoded_at, node_or, node_at, nodes_in, root_to, formula_of, answer_for, formula_has, formula_answer, named_by, fits, lawful_node, lawful_at}
 
 -- what a truth says of a state, its answer says

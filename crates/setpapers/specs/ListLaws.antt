@@ -1,6 +1,6 @@
 -- A list of states keeps the laws of a set.
-use Rattle.std.specs.Prelude.{◌≡◌, ℕ, ◌-◌, ◌^◌, ◌<◌, ◌≤◌, Bool, true, false, cond, List, ◌==◌, ◌≢◌, refl}
-use Rattle.std.proofs.Common.{sym, ap, subst, ◌∙◌, ⊎_elim, arith}
+use Rattle.std.specs.Prelude.{◌≡◌, ℕ, ◌^◌, true, false, cond, List, ◌==◌, ◌≢◌}
+use Rattle.std.proofs.Common.{sym, ap, subst, ⊎_elim, arith}
 use Rattle.std.proofs.lemmas.Bool.{both_ways, eq-eqb, ne_eqb, cond-true, cond-false, cases_eq, cases_Bool}
 use Rattle.logic.specs.Partial.{PartialState, Fine, In, free_count, holds_state}
 use Rattle.sets.specs.declared.answer.Answer.{Answer}
@@ -10,7 +10,7 @@ use Rattle.sets.specs.Points.{total_free}
 use Rattle.sets.specs.Sets.{Laws, Claims, Total}
 use Rattle.setpapers.specs.Count.{tally, rising, listed}
 use Rattle.setpapers.specs.Counted.{tally_full, tally_none, tally_le, listed_within}
-use Rattle.setpapers.specs.Lists.{states, state_at, list_has, answer_of, list_says, list_answer}
+use Rattle.setpapers.specs.Lists.{states, state_at, list_has, list_says, list_answer}
 
 -- e is a row of n entries, rising at the width of the cube
 module _ (e : ℕ → ℕ) (n : ℕ) (c : PartialState) (fine : Fine c) (r : rising c.width e n ≡ true) where

@@ -8,7 +8,7 @@ use Rattle.sets.specs.Sets.{at_width}
 use Rattle.setpapers.specs.declared.fault.SetFault.{SetFault}
 use Rattle.setpapers.specs.Rows.{verdict}
 use Rattle.setpapers.specs.Papers.{body_in}
-use Rattle.setpapers.specs.Count.{tally, listed, rises, rising}
+use Rattle.setpapers.specs.Count.{tally, listed, rises}
 
 -- how many states the bytes hold, 8 to a state
 abbrev pub states : List ℕ → ℕ

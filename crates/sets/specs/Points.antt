@@ -1,5 +1,5 @@
 -- The set of one state, which says nothing of a cube that has free variables.
-use Rattle.std.specs.Prelude.{◌≡◌, ℕ, zero, suc, ◌-◌, ◌/◌, ◌%◌, ◌^◌, ◌<◌, Bool, true, false, cond, ◌&&◌, ◌==◌, bit_and, count_ones, nat_lt, refl}
+use Rattle.std.specs.Prelude.{◌≡◌, ℕ, zero, suc, ◌-◌, ◌/◌, ◌^◌, ◌<◌, Bool, cond, ◌&&◌, ◌==◌, bit_and, count_ones, nat_lt}
 use Rattle.std.proofs.Common.{sym, ap, subst, ◌∙◌, ⊎_elim, pow-suc, mod-eq_of_lt, arith}
 use Rattle.std.proofs.lemmas.Nat.{and_mask, ones-le}
 use Rattle.std.specs.Int.Count.{ones_step, ones-ones}

@@ -4,7 +4,7 @@ use Rattle.std.proofs.Common.{subst, sym, ap, ◌∙◌}
 use Rattle.std.proofs.lemmas.Bool.{and_parts, and_from, and_right, lt-ltb, ltb-true}
 use Rattle.logic.specs.declared.truth.Truth.{Truth}
 use Rattle.logic.specs.Bit.{bit}
-use Rattle.logic.specs.Partial.{PartialState, Fine, In, cube_of, single, truth}
+use Rattle.logic.specs.Partial.{PartialState, In, cube_of, truth}
 use Rattle.logic.specs.States.{Has, Settled}
 use Rattle.logic.specs.Contained.{has_from, settled_single}
 use Rattle.sets.specs.declared.answer.Answer.{Answer}

@@ -1,6 +1,6 @@
 -- The second pass finds no fault of the records that the first has not found.
-use Rattle.std.proofs.Common.{◌≡◌, ℕ, zero, suc, ◌+◌, ◌^◌, Bool, true, false, cond, not, ◌||◌, eqb, ltb, ◌⊎◌, List, [], ◌∷◌, length, get_or, Some, None, Ok, Err, Option, Result, sym, refl, ap, ◌∙◌, subst, inl, inr, ⊎_elim, arith}
-use Rattle.std.proofs.lemmas.Bool.{eqb-true, eq-eqb, cond-true, cond-false, or_cases, cases_Bool}
+use Rattle.std.proofs.Common.{◌≡◌, ℕ, zero, suc, ◌+◌, ◌^◌, Bool, true, false, cond, not, ◌||◌, eqb, ltb, List, [], ◌∷◌, length, get_or, Some, None, Ok, Err, Option, Result, sym, refl, ap, ◌∙◌, subst, ⊎_elim, arith}
+use Rattle.std.proofs.lemmas.Bool.{eqb-true, cond-true, cond-false, or_cases, cases_Bool}
 use Rattle.records.specs.Cuts.{Split, cut_at}
 use Rattle.records.specs.Single.{and_then}
 use Rattle.records.specs.Walks.{map_err, walk}
@@ -15,12 +15,12 @@ use Rattle.task.specs.declared.stage.Stage.{Stage}
 use Rattle.task.specs.declared.stage.Stage.TheVariants.{Header, Nodes, Operators, Done}
 use Rattle.task.specs.declared.entries.Operator.{Operator}
 use Rattle.task.specs.declared.entries.Header as header_entry
-use Rattle.task.specs.Entries.{header, le2_at, le8_from1, header_in, written_in, operator_in, number_in}
+use Rattle.task.specs.Entries.{header, le2_at, le8_from1, operator_in}
 use Rattle.formulas.specs.Written.{decoded}
-use Rattle.task.specs.Values.{Value, value, blank, names, with_goal}
+use Rattle.task.specs.Values.{Value, value, blank, names}
 use Rattle.task.specs.Sound.{rooted}
 use Rattle.task.specs.Stages.{stage_after, stage_step, records_in}
-use Rattle.task.specs.Contents.{begun, naming, node_put, node_added, operator_added, goal_added, content_of, content_step, contents_in, task_in, verdict}
+use Rattle.task.specs.Contents.{begun, node_put, node_added, operator_added, goal_added, content_of, content_step, contents_in, task_in, verdict}
 
 -- what a stage lets the task be
 abbrev Fits : Stage → Value → Type 0

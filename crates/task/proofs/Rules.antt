@@ -1,5 +1,5 @@
 -- Every task keeps the rules, and means a planning task that is well formed.
-use Rattle.std.proofs.Common.{◌≡◌, ℕ, ◌≤◌, List, [], ◌∷◌, map, Some, None, vec_items, Option, sym, subst}
+use Rattle.std.proofs.Common.{ℕ, ◌≤◌, List, [], ◌∷◌, map, Some, None, vec_items, Option, subst}
 use Rattle.std.specs.List.{AllByRecursion}
 use Rattle.formulas.specs.declared.node.Node.{Node}
 use Rattle.formulas.specs.Decode.{Ordered}

@@ -1,16 +1,15 @@
 -- Formulas and effects in the cube of one state.
 use Rattle.std.proofs.Common.{◌≡◌, ℕ, ◌%◌, ◌^◌, ◌<◌, Bool, true, false, List, sym, refl, ap, ◌∙◌, subst}
 use Rattle.logic.specs.declared.cube.Cube.{Cube}
-use Rattle.logic.specs.declared.truth.Truth.{Truth}
 use Rattle.logic.specs.Contained.{truth_lowest}
 use Rattle.logic.specs.Kleene.{given, sure}
 use Rattle.logic.specs.Partial.{PartialState, whole, single, truth}
 use Rattle.logic.specs.Views.{partial}
 use Rattle.formulas.specs.declared.node.Node.{Node}
 use Rattle.formulas.specs.Decode.{Ordered, formula_at, effect_at}
-use Rattle.formulas.specs.Formula.{Formula, Effect, kleene, holds}
+use Rattle.formulas.specs.Formula.{kleene, holds}
 use Rattle.formulas.specs.Results.{state, result, successor}
-use Rattle.formulas.specs.Within.{Within, EffectWithin, kleene_total, formula_within, effect_within}
+use Rattle.formulas.specs.Within.{EffectWithin, kleene_total, formula_within, effect_within}
 use Rattle.formulas.proofs.After.{successor_value}
 
 sure_given : (b : Bool) → sure (given b) ≡ b

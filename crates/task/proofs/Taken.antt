@@ -1,5 +1,5 @@
 -- A task that takes in one entry more.
-use Rattle.std.proofs.Common.{◌≡◌, ℕ, ◌+◌, ◌-◌, ◌<◌, ◌≤◌, Bool, true, false, not, ◌&&◌, ltb, ◌⊎◌, List, [], ◌∷◌, ◌++◌, length, get_or, is_some, Some, None, Ok, Err, Option, Result, sym, refl, ap, ◌∙◌, subst, ap₂, inl, inr, ⊎_elim, arith, length-append}
+use Rattle.std.proofs.Common.{◌≡◌, ℕ, ◌-◌, ◌<◌, ◌≤◌, Bool, true, false, List, [], ◌∷◌, ◌++◌, length, get_or, is_some, Some, None, Ok, Option, sym, refl, ap, ◌∙◌, subst, ⊎_elim, arith, length-append}
 use Rattle.std.proofs.lemmas.List.{get_or_append_left, get_or-append_right, append-nil}
 use Rattle.std.proofs.lemmas.Bool.{lt-ltb, and_parts, and_from, not-true, cases_lt, cond-true, cond-false}
 use Rattle.formulas.specs.declared.node.Node.{Node}
@@ -9,9 +9,8 @@ use Rattle.formulas.specs.Names.{children, node_names, among, clash, claimed, On
 use Rattle.formulas.specs.Marks.{Marks, Claimed}
 use Rattle.formulas.proofs.Claims.{among_middle, among_deep, node_names_push, marks_same, once_middle, once_deep}
 use Rattle.formulas.proofs.Following.{formula_more, effect_more, lawful_push}
-use Rattle.task.specs.declared.faults.TaskFault.{TaskFault}
 use Rattle.task.specs.declared.entries.Operator.{Operator}
-use Rattle.task.specs.Values.{Value, value, with_node, with_operator, with_goal, names, operator_names, goal_names}
+use Rattle.task.specs.Values.{Value, value, with_goal, names, operator_names, goal_names}
 use Rattle.task.specs.Sound.{rooted, Rooted, aims}
 use Rattle.task.specs.Contents.{node_added, operator_added, goal_added}
 

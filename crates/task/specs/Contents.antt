@@ -1,5 +1,5 @@
 -- What the records of a task say, one after another.
-use Rattle.std.specs.Prelude.{◌≡◌, ℕ, ◌^◌, Bool, true, false, cond, not, ◌||◌, List, [], ◌∷◌, length, Some, None, Ok, Err, Option, Result, ◌==◌, nat_lt}
+use Rattle.std.specs.Prelude.{◌≡◌, ℕ, ◌^◌, Bool, cond, not, ◌||◌, List, [], ◌∷◌, length, Some, None, Ok, Err, Option, Result, ◌==◌, nat_lt}
 use Rattle.records.specs.Cuts.{Split}
 use Rattle.records.specs.Single.{and_then}
 use Rattle.records.specs.Walks.{map_err, walk}

@@ -1,5 +1,5 @@
 -- What the body of each record of a task says.
-use Rattle.std.specs.Prelude.{ℕ, ◌+◌, ◌*◌, Bool, cond, List, length, Ok, Err, Option, Result, ◌==◌, slice_index}
+use Rattle.std.specs.Prelude.{ℕ, ◌+◌, ◌*◌, cond, List, length, Ok, Err, Option, Result, ◌==◌, slice_index}
 use Rattle.records.specs.Cuts.{le2, le4}
 use Rattle.records.specs.declared.RecordFault.{RecordFault}
 use Rattle.records.specs.declared.RecordFault.TheVariants.{WrongLength}

@@ -1,11 +1,11 @@
 -- What the cube of a leaf knows.
-use Rattle.std.proofs.Common.{◌≡◌, ℕ, ◌^◌, Bool, true, false, ◌||◌, eqb, List, [], ◌∷◌, sym, refl, ap, ◌∙◌, ap₂}
+use Rattle.std.proofs.Common.{◌≡◌, ℕ, ◌^◌, Bool, true, false, ◌||◌, eqb, List, sym, refl, ap, ◌∙◌}
 use lib.Bits.{bit_or}
-use Rattle.logic.specs.Partial.{PartialState, cube_of, lower, upper}
-use Rattle.trees.specs.Tree.{Tree, leaf, split, Lawful}
+use Rattle.logic.specs.Partial.{PartialState, lower, upper}
+use Rattle.trees.specs.Tree.{Tree, Lawful}
 use Rattle.logic.specs.Bit.{bit}
 use Rattle.logic.specs.BitLaws.{bit-bit_or, bit_power}
-use Rattle.trees.specs.Leaves.{Turn, off, on, LeafAt, here, in_low, in_high, split_on, true_on, LeafSettled, LeavesKnow}
+use Rattle.trees.specs.Leaves.{Turn, LeafAt, here, in_low, in_high, split_on, true_on, LeafSettled, LeavesKnow}
 
 or_false : (a : Bool) → (a || false) ≡ a
 or_false true = refl

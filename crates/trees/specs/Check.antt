@@ -1,5 +1,5 @@
 -- The check of trees, over the list of their bytes.
-use Rattle.std.specs.Prelude.{ℕ, zero, suc, ◌+◌, Bool, cond, List, [], ◌∷◌, length, Ok, Err, Result, ◌==◌, nat_lt, slice_index}
+use Rattle.std.specs.Prelude.{ℕ, zero, suc, ◌+◌, Bool, cond, List, length, Ok, Err, Result, ◌==◌, nat_lt, slice_index}
 use Rattle.records.specs.Single.{and_then}
 use Rattle.logic.specs.Partial.{PartialState, is_free, lower, upper, free_count}
 use Rattle.trees.specs.declared.fault.TreeFault.{TreeFault}

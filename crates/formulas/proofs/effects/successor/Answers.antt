@@ -1,5 +1,5 @@
-use Rattle.std.proofs.Common.{◌≡◌, ℕ, sym, ap, ◌∙◌, subst}
-use Rattle.logic.specs.Partial.{PartialState, In, single}
+use Rattle.std.proofs.Common.{◌≡◌, sym, ap, ◌∙◌, subst}
+use Rattle.logic.specs.Partial.{PartialState, In}
 use Rattle.logic.specs.Views.{partial}
 use Rattle.formulas.specs.Decode.{effect_at}
 use Rattle.formulas.specs.Results.{result, successor}

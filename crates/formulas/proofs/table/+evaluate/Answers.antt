@@ -1,4 +1,4 @@
-use Rattle.std.proofs.Common.{◌≡◌, sym, ap, ◌∙◌, subst, ap₂, arith}
+use Rattle.std.proofs.Common.{sym, ap, ◌∙◌, ap₂, arith}
 use Rattle.logic.specs.Kleene.{not3, and3, or3}
 use Rattle.formulas.proofs.Decoded.{kleene_is, not-below}
 use Rattle.formulas.proofs.table.+evaluate.Goals as goal

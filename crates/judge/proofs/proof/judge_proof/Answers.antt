@@ -1,4 +1,4 @@
-use Rattle.std.proofs.Common.{◌≡◌, ◌≤◌, sym, subst, arith}
+use Rattle.std.proofs.Common.{◌≤◌, subst, arith}
 use Rattle.logic.specs.Partial.{whole}
 use Rattle.logic.proofs.Halves.{fine_whole}
 use Rattle.sets.specs.Sets.{Laws}

@@ -1,6 +1,5 @@
-use Rattle.std.proofs.Common.{◌≡◌, sym, subst}
+use Rattle.std.proofs.Common.{sym, subst}
 use Rattle.task.specs.Held.{model}
-use Rattle.plans.specs.Verdicts.{Answer}
 use Rattle.plans.specs.Achieves.{Exact}
 use Rattle.plans.proofs.Exact.{exact}
 use Rattle.plans.proofs.judge.judge_plan.Goals as goal

@@ -1,4 +1,4 @@
-use Rattle.std.proofs.Common.{◌≡◌, ◌<◌, length, sym, ◌∙◌, rules}
+use Rattle.std.proofs.Common.{◌<◌, length, sym, rules}
 use Rattle.records.proofs.Turns.{begun, steps}
 use Rattle.task.proofs.stage.check_records.Goals as goal
 

@@ -1,6 +1,6 @@
-use Rattle.std.proofs.Common.{◌≡◌, ◌<◌, ◌≤◌, true, length, get_or, sym, ap, ◌∙◌, arith, rules}
+use Rattle.std.proofs.Common.{◌≡◌, ◌<◌, ◌≤◌, length, get_or, ap, arith, rules}
 use Rattle.std.proofs.lemmas.Result.{err_from_is_err_and, IfOk-from_err}
-use Rattle.logic.specs.Partial.{is_free, free_count, lower, upper}
+use Rattle.logic.specs.Partial.{free_count}
 use Rattle.logic.specs.Views.{partial, fine}
 use Rattle.logic.proofs.Halves.{fewer}
 use Rattle.trees.proofs.Steps.{tree_fails, tree_goes}

@@ -1,7 +1,7 @@
 use Rattle.std.proofs.Common.{ℕ, List, refl, ap}
 use Rattle.card.specs.declared.desk.Desk.TheVariants.{Idle, Busy}
 use Rattle.card.specs.declared.desk.Reply.TheVariants.{Judged, Ruled, Done}
-use Rattle.card.specs.History.{planned, proved, begun, stepped, finished, given_up}
+use Rattle.card.specs.History.{planned, proved, begun, given_up}
 use Rattle.card.proofs.Heard.{idle_heard, busy_heard}
 use Rattle.card.proofs.desk.Desk.obey.Goals as goal
 

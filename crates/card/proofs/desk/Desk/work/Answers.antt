@@ -1,7 +1,7 @@
-use Rattle.std.proofs.Common.{◌≡◌, List, [], length, take, vec_items, vec_len, vec_capacity, sym, refl, subst, arith, take_all, rules}
+use Rattle.std.proofs.Common.{List, [], vec_items, sym, refl, subst, arith, take_all, rules}
 use Rattle.card.specs.declared.desk.Call.{Call}
 use Rattle.card.specs.declared.desk.Reply.{Reply}
-use Rattle.card.specs.Desks.{Follows, Works}
+use Rattle.card.specs.Desks.{Follows}
 use Rattle.card.proofs.Heard.{works_push}
 use Rattle.card.proofs.desk.Desk.work.Goals as goal
 

@@ -1,4 +1,4 @@
-use Rattle.std.proofs.Common.{Bool, false}
+use Rattle.std.proofs.Common.{false}
 use lib.ListN.{length-replicate, get_or-replicate}
 use Rattle.formulas.proofs.names.Names.none.Goals as goal
 

@@ -1,4 +1,4 @@
-use Rattle.std.proofs.Common.{◌≡◌, ◌^◌, ◌<◌, arith}
+use Rattle.std.proofs.Common.{arith}
 use Rattle.logic.specs.Contained.{cube_from_lem}
 use Rattle.logic.specs.Partial.{Fine, cube_of}
 use Rattle.logic.proofs.Applied.{new_known, new_value, new_within, new_part, new_seen}

@@ -1,4 +1,4 @@
-use Rattle.std.proofs.Common.{◌≡◌, ◌≤◌, arith}
+use Rattle.std.proofs.Common.{arith}
 use Rattle.logic.specs.Views.{partial, fine}
 use Rattle.logic.proofs.Freed.{freed_same, freed_fine, freed_is}
 use Rattle.logic.proofs.cube.Cube.free.Goals as goal

@@ -1,4 +1,4 @@
-use Rattle.std.proofs.Common.{◌≡◌, true, Ok, Err, sym, refl, ap, ◌∙◌, subst, rules}
+use Rattle.std.proofs.Common.{◌≡◌, true, Ok, Err, sym, ap, ◌∙◌, subst, rules}
 use Rattle.records.specs.declared.PaperKind.TheVariants.{Diagram as DiagramPaper}
 use Rattle.records.specs.Papers.{Exact}
 use Rattle.setpapers.specs.Diagrams.{entries, lawful, entry_at, diagram_verdict, diagram_in, DiagramEntry}

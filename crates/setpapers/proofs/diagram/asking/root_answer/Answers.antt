@@ -1,4 +1,4 @@
-use Rattle.std.proofs.Common.{◌≡◌, ◌+◌, ◌<◌, ◌≤◌, true, length, sym, ap, subst, arith, length-set}
+use Rattle.std.proofs.Common.{◌≡◌, ◌<◌, true, length, ap, arith, length-set}
 use Rattle.logic.specs.Partial.{truth}
 use Rattle.logic.specs.Views.{partial}
 use Rattle.setpapers.specs.declared.entry.Entry.{Entry}

@@ -1,4 +1,4 @@
-use Rattle.std.proofs.Common.{◌≡◌, ℕ, length}
+use Rattle.std.proofs.Common.{◌≡◌, length}
 use Rattle.logic.specs.Partial.{truth}
 use Rattle.logic.specs.Views.{partial}
 use Rattle.setpapers.specs.Diagrams.{entry_at}

@@ -1,4 +1,4 @@
-use Rattle.std.proofs.Common.{◌≡◌, true, Ok, Err, sym, refl, ap, ◌∙◌, subst, rules}
+use Rattle.std.proofs.Common.{◌≡◌, true, Ok, Err, sym, ap, ◌∙◌, subst, rules}
 use Rattle.records.specs.declared.PaperKind.TheVariants.{Formula as FormulaPaper}
 use Rattle.records.specs.Papers.{Exact}
 use Rattle.setpapers.specs.Diagrams.{entries}

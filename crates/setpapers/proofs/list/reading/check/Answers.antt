@@ -1,5 +1,5 @@
 use Rattle.std.proofs.Common.{◌≡◌, true, sym, ◌∙◌, subst, arith}
-use Rattle.setpapers.specs.Count.{rises, rising}
+use Rattle.setpapers.specs.Count.{rises}
 use Rattle.setpapers.specs.Lists.{states, state_at}
 use Rattle.setpapers.specs.Rows.{all, all_none, all_more}
 use Rattle.setpapers.specs.Verdicts.{verdict_fine, verdict_bad}

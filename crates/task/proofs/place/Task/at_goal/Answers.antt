@@ -1,4 +1,4 @@
-use Rattle.std.proofs.Common.{◌≡◌, sym, ap, ◌∙◌}
+use Rattle.std.proofs.Common.{sym, ap, ◌∙◌}
 use Rattle.logic.specs.Kleene.{sure}
 use Rattle.logic.specs.Views.{partial}
 use Rattle.formulas.specs.Formula.{holds}

@@ -1,4 +1,4 @@
-use Rattle.std.proofs.Common.{◌≡◌, ℕ, ◌<◌, ◌≤◌, length, vec_items, sym, refl, ◌∙◌, subst, rules}
+use Rattle.std.proofs.Common.{length, vec_items, sym, refl, rules}
 use Rattle.std.proofs.lemmas.Option.{slice_get_read, slice_get_past}
 use Rattle.task.proofs.place.Task.operator.Goals as goal
 

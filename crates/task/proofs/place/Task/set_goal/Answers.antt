@@ -1,4 +1,4 @@
-use Rattle.std.proofs.Common.{◌≡◌, true, false, is_some, Some, None, vec_items, refl, rules}
+use Rattle.std.proofs.Common.{◌≡◌, true, false, is_some, vec_items, refl, rules}
 use Rattle.formulas.specs.Lawful.{is_formula}
 use Rattle.task.specs.Values.{names}
 use Rattle.task.specs.Held.{value_of}

@@ -1,4 +1,4 @@
-use Rattle.std.proofs.Common.{◌≡◌, true, false, sym, ap, ◌∙◌, rules}
+use Rattle.std.proofs.Common.{◌≡◌, true, false, ap, ◌∙◌, rules}
 use Rattle.logic.specs.Kleene.{sure}
 use Rattle.logic.specs.Views.{partial}
 use Rattle.formulas.specs.Decode.{formula_at}

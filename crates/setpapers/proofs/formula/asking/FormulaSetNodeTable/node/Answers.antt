@@ -1,4 +1,4 @@
-use Rattle.std.proofs.Common.{◌≡◌, sym, ap, ◌∙◌, arith}
+use Rattle.std.proofs.Common.{ap, ◌∙◌, arith}
 use Rattle.setpapers.specs.FormulaSets.{node_or}
 use Rattle.setpapers.proofs.Rooted.{node_there, node_beyond}
 use Rattle.setpapers.proofs.formula.asking.FormulaSetNodeTable.node.Goals as goal
