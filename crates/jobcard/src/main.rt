@@ -20,23 +20,34 @@ fn work<R: BufRead + Drop>(rt: &HostRuntime, reader: R) -> anyhow::Result<ExitCo
     }
 }
 
-fn main(rt: HostRuntime) -> anyhow::Result<ExitCode> {
-    let mut args = env::args(&rt)?;
+/// Works the script that the words of the call name.
+fn work_call(rt: &HostRuntime) -> anyhow::Result<ExitCode> {
+    let mut args = env::args(rt)?;
     let _program = args.next();
     let Some(path) = args.next() else {
-        return work(&rt, BufReader::new(rt.alloc(), rt.stdin())?);
+        return work(rt, BufReader::new(rt.alloc(), rt.stdin())?);
     };
     if args.next().is_some() {
         eprintln!(rt; "jobcard: too many words: write jobcard or jobcard FILE")?;
         return Ok(ExitCode::FAILURE);
     }
-    match fs::open(&rt, path.as_str()) {
-        Ok(file) => work(&rt, BufReader::new(rt.alloc(), file)?),
+    match fs::open(rt, path.as_str()) {
+        Ok(file) => work(rt, BufReader::new(rt.alloc(), file)?),
         Err(error) => {
             eprintln!(rt;
                 "jobcard: cannot read the script {path}: {error}: name a file that can be read"
             )?;
             Ok(ExitCode::FAILURE)
+        }
+    }
+}
+
+fn main(rt: HostRuntime) -> ExitCode {
+    match work_call(&rt) {
+        Ok(status) => status,
+        Err(error) => {
+            let _told = eprintln!(rt; "jobcard: {error}");
+            ExitCode::FAILURE
         }
     }
 }
