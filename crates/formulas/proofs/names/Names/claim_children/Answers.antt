@@ -3,13 +3,6 @@ use Rattle.formulas.specs.Names.{Each, children}
 use Rattle.formulas.specs.Marks.{Claimed}
 use Rattle.formulas.proofs.names.Names.claim_children.Goals as goal
 
-pub returns-in-Not : goal.returns-in-Not
-returns-in-Not c ns low m =
-    let is : children c.args.node ≡ c.in-Not.a ∷ [] = search rules in
-    let P : List ℕ → Type 0 = λ cs. Claimed c.claim.new.self.marks cs c.claim.result ns in
-    let few = subst (Each (λ c. c < 1024)) is low in
-    subst P (sym is) (c.claim.ensures.named ns few.0 m)
-
 pub returns-in-And : goal.returns-in-And
 returns-in-And c ns low m =
     let is : children c.args.node ≡ c.in-And.a ∷ c.in-And.b ∷ [] = search rules in
