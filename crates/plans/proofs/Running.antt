@@ -62,13 +62,13 @@ module _ {C : Type 0} (K : Kind C) (m : Model) where
   then_append os ps on (Ok q) = on q
   then_append os ps on (Err f) = refl
 
-  pub run-append : (r : Reached C) (os ps : List ℕ) → run K m r (os ++ ps) ≡ and_then (run K m r os) (λ q. run K m q ps)
-  run-append r [] ps = refl
-  run-append r (o ∷ os) ps = then_append os ps (λ q. run-append q os ps) (next K m r o)
+  pub run_append : (r : Reached C) (os ps : List ℕ) → run K m r (os ++ ps) ≡ and_then (run K m r os) (λ q. run K m q ps)
+  run_append r [] ps = refl
+  run_append r (o ∷ os) ps = then_append os ps (λ q. run_append q os ps) (next K m r o)
 
   -- one step more
   pub run_push : (r q : Reached C) (os : List ℕ) (o : ℕ) → run K m r os ≡ Ok q → run K m r (os ++ (o ∷ [])) ≡ next K m q o
-  run_push r q os o e = run-append r os (o ∷ []) ∙ ap (λ x. and_then x (λ p. run K m p (o ∷ []))) e ∙ one (next K m q o)
+  run_push r q os o e = run_append r os (o ∷ []) ∙ ap (λ x. and_then x (λ p. run K m p (o ∷ []))) e ∙ one (next K m q o)
     where
       one : (x : Answer C) → and_then x (λ p. Ok p) ≡ x
       one (Ok p) = refl

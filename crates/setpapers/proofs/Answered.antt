@@ -5,7 +5,7 @@ use Rattle.logic.specs.declared.truth.Truth.{Truth}
 use Rattle.sets.specs.declared.answer.Answer.{Answer}
 use Rattle.sets.specs.declared.answer.Answer.TheVariants.{Inside, Outside}
 use Rattle.setpapers.specs.declared.entry.Entry.{Entry}
-use Rattle.setpapers.specs.Rows.{all, all-at}
+use Rattle.setpapers.specs.Rows.{all, all_at}
 use Rattle.setpapers.specs.Decisions.{out, inn, pick, answers, Decision}
 use Rattle.setpapers.specs.Diagrams.{child, decision_at, lawful}
 use Rattle.setpapers.specs.DiagramLaws.{low_below, high_below, child_so, decision_node}
@@ -26,5 +26,5 @@ module _ (w : ℕ) (e : ℕ → Entry) (n : ℕ) (fine : all (lawful w e) n ≡ 
       (λ j h. let ne : j ≢ i = omega arith in get_or-set_other row i j r Inside ne ∙ below j h)
       (get_or-set_same row i r Inside hl ∙ here
       ∙ ap (λ (y : Entry). pick (ρ y.variable) (child Outside Inside (λ j. get_or row j Inside) y.low) (child Outside Inside (λ j. get_or row j Inside) y.high)) is
-      ∙ ap₂ (pick (ρ (e i).variable)) (answered_child (e i).low below (low_below w e i (all-at (lawful w e) n fine i hi))) (answered_child (e i).high below (high_below w e i (all-at (lawful w e) n fine i hi)))
+      ∙ ap₂ (pick (ρ (e i).variable)) (answered_child (e i).low below (low_below w e i (all_at (lawful w e) n fine i hi))) (answered_child (e i).high below (high_below w e i (all_at (lawful w e) n fine i hi)))
       ∙ sym (ap (answers ρ) (decision_node w e n fine i hi)))

@@ -10,7 +10,7 @@ use Rattle.sets.specs.declared.answer.Answer.TheVariants.{Inside, Outside, Open}
 use Rattle.sets.specs.Sets.{Laws}
 use Rattle.sets.specs.Told.{Says, states_where, told, told_laws}
 use Rattle.setpapers.specs.declared.entry.Entry.{Entry}
-use Rattle.setpapers.specs.Rows.{all, all-at}
+use Rattle.setpapers.specs.Rows.{all, all_at}
 use Rattle.setpapers.specs.Decisions.{Decision, out, inn, test, picks, agree, pick, answers, Below}
 use Rattle.setpapers.specs.Diagrams.{child, entry_decision, decision_to, decision_at, root, lawful_child, lawful}
 
@@ -98,7 +98,7 @@ child_so R a b x y f g i c p q h l = go (cases_eq c 0)
 
 module _ (w : ℕ) (e : ℕ → Entry) (n : ℕ) (fine : all (lawful w e) n ≡ true) where
   at : (i : ℕ) → i < n → lawful w e i ≡ true
-  at = all-at (lawful w e) n fine
+  at = all_at (lawful w e) n fine
 
   -- to read deeper than the entry's number changes nothing
   decision_deep : (k l i : ℕ) → i < n → i < k → i < l → decision_to k e i ≡ decision_to l e i

@@ -18,7 +18,7 @@ use Rattle.sets.specs.declared.answer.Answer.{Answer}
 use Rattle.sets.specs.declared.answer.Answer.TheVariants.{Inside, Outside, Open}
 use Rattle.sets.specs.Sets.{Laws}
 use Rattle.sets.specs.Told.{Says, told_laws}
-use Rattle.setpapers.specs.Rows.{all, all-at}
+use Rattle.setpapers.specs.Rows.{all, all_at}
 use Rattle.setpapers.specs.Diagrams.{entries}
 use Rattle.setpapers.specs.Tabled.{length_table, get_or_table}
 use Rattle.setpapers.specs.FormulaSets.{decoded_at, node_or, node_at, nodes_in, root_to, formula_of, answer_for, formula_has, formula_answer, named_by, fits, lawful_node, lawful_at}
@@ -68,7 +68,7 @@ module _ (w : ℕ) (bs : List ℕ) (fine : all (lawful_at w bs) (entries bs) ≡
       ⊎_elim
       (λ (l : i < entries bs).
       ap (ordered w i) (get_or_table (node_at bs) (entries bs) i no_node l)
-      ∙ node_ordered w i (named_by (node_at bs) i) (decoded_at bs i) (all-at (lawful_at w bs) (entries bs) fine i l))
+      ∙ node_ordered w i (named_by (node_at bs) i) (decoded_at bs i) (all_at (lawful_at w bs) (entries bs) fine i l))
       (λ (l : entries bs ≤ i). ap (ordered w i) (get_or_past (nodes_in bs) i no_node (omega (arith, length_table (node_at bs) (entries bs)))))
       (cases_lt i (entries bs))
 

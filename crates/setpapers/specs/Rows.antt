@@ -41,8 +41,8 @@ module _ (p : ℕ → Bool) where
   unfolding all
   all_parts n a = and_parts (all p n) (p n) a
 
-  pub all-at : (n : ℕ) → all p n ≡ true → (i : ℕ) → i < n → p i ≡ true
-  all-at zero a i h = absurd (omega arith)
-  all-at (suc n) a i h =
+  pub all_at : (n : ℕ) → all p n ≡ true → (i : ℕ) → i < n → p i ≡ true
+  all_at zero a i h = absurd (omega arith)
+  all_at (suc n) a i h =
       let q = all_parts n a in
-      ⊎_elim (λ (e : i ≡ n). ap p e ∙ q.1) (λ (e : i ≡ n → ⊥). all-at n q.0 i (omega arith)) (cases_eq i n)
+      ⊎_elim (λ (e : i ≡ n). ap p e ∙ q.1) (λ (e : i ≡ n → ⊥). all_at n q.0 i (omega arith)) (cases_eq i n)

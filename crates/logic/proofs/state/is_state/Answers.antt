@@ -10,8 +10,8 @@ returns-then-width-ge64 c = sym (lt-ltb c.args.word (2 ^ c.args.width) (lt_of_lt
 pub returns : goal.returns
 returns c =
     ⊎_elim (λ (h : c.args.word < 2 ^ c.args.width). eq-eqb _ 0 (div-eq_of_lt h) ∙ sym (lt-ltb _ _ h))
-    (λ (h : 2 ^ c.args.width ≤ c.args.word). ne_eqb _ 0 (λ e. absurd (some-quotient c.args.word (2 ^ c.args.width) (pow_pos c.args.width) h e)) ∙ sym (le-ltb _ _ h))
+    (λ (h : 2 ^ c.args.width ≤ c.args.word). ne_eqb _ 0 (λ e. absurd (some_quotient c.args.word (2 ^ c.args.width) (pow_pos c.args.width) h e)) ∙ sym (le-ltb _ _ h))
     (cases_lt c.args.word (2 ^ c.args.width))
   where
-    some-quotient : (a b : ℕ) → 0 < b → b ≤ a → a / b ≡ 0 → ⊥
-    some-quotient a b p h e = omega (arith, div-add-mod' a b, mod_below a b p, ap (λ (q : ℕ). q * b) e)
+    some_quotient : (a b : ℕ) → 0 < b → b ≤ a → a / b ≡ 0 → ⊥
+    some_quotient a b p h e = omega (arith, div-add-mod' a b, mod_below a b p, ap (λ (q : ℕ). q * b) e)

@@ -12,18 +12,18 @@ module _ (self : Cube) (v : ℕ) (free : is_free (partial self) v ≡ true) wher
   shifted : (1 * 2 ^ v) % 2 ^ 64 ≡ 2 ^ v
   shifted = one_shl v 64 (omega (arith, below (partial self) v (fine self) free, self.narrow))
 
-  low-fine : Fine (cube_of self.width (bit_or self.known ((1 * 2 ^ v) % 2 ^ 64)) self.value)
-  low-fine = subst (λ (p : ℕ). Fine (cube_of self.width (bit_or self.known p) self.value)) (sym shifted) (fine_lower (partial self) v (fine self) free)
+  low_fine : Fine (cube_of self.width (bit_or self.known ((1 * 2 ^ v) % 2 ^ 64)) self.value)
+  low_fine = subst (λ (p : ℕ). Fine (cube_of self.width (bit_or self.known p) self.value)) (sym shifted) (fine_lower (partial self) v (fine self) free)
 
-  high-fine : Fine (cube_of self.width (bit_or self.known ((1 * 2 ^ v) % 2 ^ 64)) (bit_or self.value ((1 * 2 ^ v) % 2 ^ 64)))
-  high-fine = subst (λ (p : ℕ). Fine (cube_of self.width (bit_or self.known p) (bit_or self.value p))) (sym shifted) (fine_upper (partial self) v (fine self) free)
+  high_fine : Fine (cube_of self.width (bit_or self.known ((1 * 2 ^ v) % 2 ^ 64)) (bit_or self.value ((1 * 2 ^ v) % 2 ^ 64)))
+  high_fine = subst (λ (p : ℕ). Fine (cube_of self.width (bit_or self.known p) (bit_or self.value p))) (sym shifted) (fine_upper (partial self) v (fine self) free)
 
 pub invariant_of-low : goal.invariant_of-low
 invariant_of-low c =
-    let f = low-fine c.args.self c.args.v (sym c.is_free.ensures ∙ c.if-not-is_free.false) in
+    let f = low_fine c.args.self c.args.v (sym c.is_free.ensures ∙ c.if-not-is_free.false) in
     record { narrow = c.args.self.narrow; within = f.inside; part = f.part }
 
 pub invariant_of-high : goal.invariant_of-high
 invariant_of-high c =
-    let f = high-fine c.args.self c.args.v (sym c.is_free.ensures ∙ c.if-not-is_free.false) in
+    let f = high_fine c.args.self c.args.v (sym c.is_free.ensures ∙ c.if-not-is_free.false) in
     record { narrow = c.args.self.narrow; within = f.inside; part = f.part }

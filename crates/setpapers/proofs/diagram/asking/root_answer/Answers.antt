@@ -2,7 +2,7 @@ use Rattle.std.proofs.Common.{◌≡◌, ◌<◌, true, length, ap, arith, lengt
 use Rattle.logic.specs.Partial.{truth}
 use Rattle.logic.specs.Views.{partial}
 use Rattle.setpapers.specs.declared.entry.Entry.{Entry}
-use Rattle.setpapers.specs.Rows.{all-at}
+use Rattle.setpapers.specs.Rows.{all_at}
 use Rattle.setpapers.specs.Diagrams.{entries, lawful, entry_at}
 use Rattle.setpapers.specs.DiagramLaws.{low_below, high_below}
 use Rattle.setpapers.proofs.Answered.{answered_more}
@@ -13,7 +13,7 @@ entry_answer-requires c =
     let w = c.args.width in
     let e = entry_at c.args.body.now in
     let i = c.loop-i.i in
-    let o : lawful w e i ≡ true = all-at (lawful w e) (entries c.args.body.now) c.requires.fine i (omega arith) in
+    let o : lawful w e i ≡ true = all_at (lawful w e) (entries c.args.body.now) c.requires.fine i (omega arith) in
     let is = c.entry.ensures in
     record {
       low = omega (arith, ap (λ (x : Entry). x.low) is, low_below w e i o, c.loop-i.invariant.0);

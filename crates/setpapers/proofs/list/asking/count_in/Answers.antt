@@ -19,8 +19,8 @@ loop-i-preserved c =
     let p = holds_state (partial c.args.cube.now) in
     let e = state_at c.args.body.now in
     let i = c.loop-i.i in
-    let in-cube : c.agrees.result ≡ p (e i) = c.agrees.ensures ∙ ap p c.state.ensures in
+    let in_cube : c.agrees.result ≡ p (e i) = c.agrees.ensures ∙ ap p c.state.ensures in
     elim c.if-agrees.branch [
-      | then-agrees w ↦ w.found-is ∙ ap (λ n. n + 1) c.loop-i.invariant ∙ sym (tally_hit e p i (sym in-cube ∙ w.if-agrees.true))
-      | else-agrees w ↦ w.found-is ∙ c.loop-i.invariant ∙ sym (tally_miss e p i (sym in-cube ∙ w.if-agrees.false))
+      | then-agrees w ↦ w.found-is ∙ ap (λ n. n + 1) c.loop-i.invariant ∙ sym (tally_hit e p i (sym in_cube ∙ w.if-agrees.true))
+      | else-agrees w ↦ w.found-is ∙ c.loop-i.invariant ∙ sym (tally_miss e p i (sym in_cube ∙ w.if-agrees.false))
     ]
