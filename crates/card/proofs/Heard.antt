@@ -1,8 +1,8 @@
 -- A call adds its event.
-use Rattle.std.proofs.Common.{◌≡◌, ℕ, ◌+◌, ◌<◌, true, false, List, [], ◌∷◌, ◌++◌, length, get_or, take, Some, None, Option, sym, refl, ap, ◌∙◌, subst, inl, inr}
+use Rattle.std.proofs.Common.{◌≡◌, ℕ, ◌+◌, ◌<◌, true, List, [], ◌∷◌, ◌++◌, length, get_or, take, Some, None, Option, sym, refl, ap, ◌∙◌, subst, inl}
 use Rattle.std.proofs.lemmas.List.{take_more}
 use Rattle.logic.specs.Partial.{PartialState}
-use Rattle.sets.specs.declared.answer.Answer.{Answer as SetAnswer}
+use Rattle.logic.specs.declared.truth.Truth.{Truth}
 use Rattle.costs.specs.Kind.{Kind}
 use Rattle.planning.specs.Model.{Model}
 use Rattle.card.specs.declared.card.Card.{Card}
@@ -11,12 +11,11 @@ use Rattle.card.specs.declared.desk.Call.{Call}
 use Rattle.card.specs.declared.desk.Desk.{Desk}
 use Rattle.card.specs.declared.desk.Desk.TheVariants.{Idle, Busy}
 use Rattle.card.specs.declared.desk.Reply.{Reply}
-use Rattle.card.specs.declared.desk.Reply.TheVariants.{OutOfTurn}
 use Rattle.card.specs.History.{Event, History, walk}
 use Rattle.card.specs.Law.{Keeps, Walks}
 use Rattle.card.specs.Desks.{Stands, in_turn, Made, Next, Follows, Works}
 
-module _ {C S : Type 0} (K : Kind C) (ask : S → PartialState → SetAnswer) {call shape : Call S} (eq : call ≡ shape) where
+module _ {C S : Type 0} (K : Kind C) (ask : S → PartialState → Truth) {call shape : Call S} (eq : call ≡ shape) where
   heard : (e : Event C) (reply : Reply C) (h : History C) (w : Option (List ℕ)) → walk h ≡ w → in_turn shape w ≡ true → Made ask shape reply e → Next ask call reply h (e ∷ h)
   heard e reply h w under turn made =
       inl (record {
@@ -26,20 +25,11 @@ module _ {C S : Type 0} (K : Kind C) (ask : S → PartialState → SetAnswer) {c
         grown = refl;
       })
 
-  ignored : (h : History C) (w : Option (List ℕ)) → walk h ≡ w → in_turn shape w ≡ false → Next {C = C} ask call OutOfTurn h h
-  ignored h w under turn =
-      inr (record { turn = subst (λ c. in_turn c (walk h) ≡ false) (sym eq) (ap (in_turn shape) under ∙ turn); told = refl; same = refl })
-
   module _ {desk : Desk C} (card : Card C) (is : desk ≡ Idle card) where
     pub idle_heard : (e : Event C) (reply : Reply C) (after : Desk C) → in_turn {X = List ℕ} shape None ≡ true → Made ask shape reply e → ((m : Model) (h : History C) → Keeps K m h card → Stands K m (e ∷ h) after) → (m : Model) (h : History C) → Stands K m h desk → (g : History C) × Next ask call reply h g × Stands K m g after
     idle_heard e reply after turn made law m h s =
         let k = subst (Stands K m h) is s in
         (e ∷ h, heard e reply h None k.idle turn made, law m h k)
-
-    pub idle_ignored : in_turn {X = List ℕ} shape None ≡ false → (m : Model) (h : History C) → Stands K m h desk → (g : History C) × Next ask call OutOfTurn h g × Stands K m g (Idle card)
-    idle_ignored turn m h s =
-        let k = subst (Stands K m h) is s in
-        (h, ignored h None k.idle turn, k)
 
   module _ {desk : Desk C} (w : Walk C) (is : desk ≡ Busy w) where
     pub busy_heard : (e : Event C) (reply : Reply C) (after : Desk C) → ((os : List ℕ) → in_turn shape (Some os) ≡ true) → Made ask shape reply e → ((m : Model) (h : History C) → Walks K m h w → Stands K m (e ∷ h) after) → (m : Model) (h : History C) → Stands K m h desk → (g : History C) × Next ask call reply h g × Stands K m g after
@@ -47,13 +37,8 @@ module _ {C S : Type 0} (K : Kind C) (ask : S → PartialState → SetAnswer) {c
         let k = subst (Stands K m h) is s in
         (e ∷ h, heard e reply h (Some k.steps) k.under_way (turn k.steps) made, law m h k)
 
-    pub busy_ignored : ((os : List ℕ) → in_turn shape (Some os) ≡ false) → (m : Model) (h : History C) → Stands K m h desk → (g : History C) × Next ask call OutOfTurn h g × Stands K m g (Busy w)
-    busy_ignored turn m h s =
-        let k = subst (Stands K m h) is s in
-        (h, ignored h (Some k.steps) k.under_way (turn k.steps), k)
-
 -- one call more
-follows_push : {C S : Type 0} (ask : S → PartialState → SetAnswer) (cs : List (Call S)) (rs : List (Reply C)) (c : Call S) (r : Reply C) (h f g : History C) → Follows ask cs rs h f → Next ask c r f g → Follows ask (cs ++ (c ∷ [])) (rs ++ (r ∷ [])) h g
+follows_push : {C S : Type 0} (ask : S → PartialState → Truth) (cs : List (Call S)) (rs : List (Reply C)) (c : Call S) (r : Reply C) (h f g : History C) → Follows ask cs rs h f → Next ask c r f g → Follows ask (cs ++ (c ∷ [])) (rs ++ (r ∷ [])) h g
 follows_push ask [] [] c r h f g e n = (g, subst (λ x. Next ask c r x g) e n, refl)
 follows_push ask [] (q ∷ rs) c r h f g e n = absurd e
 follows_push ask (d ∷ cs) [] c r h f g e n = absurd e
@@ -62,7 +47,7 @@ follows_push ask (d ∷ cs) (q ∷ rs) c r h f g e n = (e.0, e.1, follows_push a
 take_next : {X : Type 0} (xs : List X) (i : ℕ) (x : X) → i < length xs → x ≡ get_or xs i x → take (i + 1) xs ≡ take i xs ++ (x ∷ [])
 take_next xs i x within read = take_more xs i x within ∙ ap (λ y. take i xs ++ (y ∷ [])) (sym read)
 
-pub works_push : {C S : Type 0} (K : Kind C) (ask : S → PartialState → SetAnswer) (m : Model) (cs : List (Call S)) (i : ℕ) (c : Call S) → i < length cs → c ≡ get_or cs i c → (rs qs : List (Reply C)) (r : Reply C) → qs ≡ rs ++ (r ∷ []) → (h : History C) (desk next : Desk C) (before : Works K ask m (take i cs) rs h desk) → (g : History C) × Next ask c r before.after g × Stands K m g next → Works K ask m (take (i + 1) cs) qs h next
+pub works_push : {C S : Type 0} (K : Kind C) (ask : S → PartialState → Truth) (m : Model) (cs : List (Call S)) (i : ℕ) (c : Call S) → i < length cs → c ≡ get_or cs i c → (rs qs : List (Reply C)) (r : Reply C) → qs ≡ rs ++ (r ∷ []) → (h : History C) (desk next : Desk C) (before : Works K ask m (take i cs) rs h desk) → (g : History C) × Next ask c r before.after g × Stands K m g next → Works K ask m (take (i + 1) cs) qs h next
 works_push K ask m cs i c within read rs qs r grown h desk next before after = record {
   after = after.0;
   follows =

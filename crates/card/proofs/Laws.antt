@@ -2,7 +2,7 @@
 use Rattle.std.proofs.Common.{◌≡◌, ℕ, ◌≤◌, Bool, true, ◌⊎◌, List, [], ◌∷◌, ◌++◌, length, Some, None, Ok, Err, Option, sym, refl, ap, ◌∙◌, subst, inl, inr, ⊎_elim, arith}
 use Rattle.std.proofs.lemmas.Bool.{cond_both, cond-false, false≢true, le-ltb}
 use Rattle.logic.specs.Partial.{PartialState}
-use Rattle.sets.specs.declared.answer.Answer.{Answer as SetAnswer}
+use Rattle.logic.specs.declared.truth.Truth.{Truth}
 use Rattle.records.specs.Single.{and_then}
 use Rattle.costs.specs.Kind.{Kind, Ordered}
 use Rattle.planning.specs.Model.{Model}
@@ -17,7 +17,7 @@ use Rattle.judge.specs.Verdict.{proof_verdict}
 use Rattle.card.specs.declared.card.Card.{Card}
 use Rattle.card.specs.declared.card.Walk.{Walk}
 use Rattle.card.specs.declared.card.Verdict.{Verdict}
-use Rattle.card.specs.declared.card.Verdict.TheVariants.{Reached, Impossible}
+use Rattle.card.specs.declared.card.Verdict.TheVariants.{Plan, Proof}
 use Rattle.card.specs.Cards.{Ruling, opened, better, noted, ruled, set_out, moved}
 use Rattle.card.specs.History.{Event, planned, proved, begun, stepped, finished, given_up, History, In, Costs, Shows, Achieved, Disproved, longer, newest, Right, AllRight}
 use Rattle.card.specs.Law.{Complete, Best, Says, Keeps, Walks}
@@ -44,7 +44,7 @@ module _ {C : Type 0} (K : Kind C) (m : Model) where
   right_in (d ∷ h) e all i = ⊎_elim (λ (p : e ≡ d). (h, subst (Right K m h) (sym p) all.0)) (λ i. right_in h e all.1 i) i
 
   never_both : (h : History C) (o : Option C) (b : Bool) → (b ≡ true → Unsolvable m) → Best K (Achieved h) o → AllRight K m h → (c : C) → o ≡ Some c → b ≡ true → ⊥
-  never_both h None b sound best all c e mark = let z : ◌≡◌ {A = ℕ} 0 1 = cc in omega arith
+  never_both h None b sound best all c e mark = cc
   never_both h (Some d) b sound best all c e mark =
       let a = best.0 in
       let r = right_in h a.0 all a.1 in
@@ -98,7 +98,7 @@ module _ {C : Type 0} {K : Kind C} (k : Ordered K) where
     }
 
     -- an accepted plan or walk
-    says_cost : (r : ReachedState C) → Some (Reached r) ≡ newest (e ∷ h) → Costs e r.cost → ((d : C) → Costs e d → r.cost ≡ d) → (Shows e → ⊥) → Says K m (e ∷ h) (noted K card (Ok r))
+    says_cost : (r : ReachedState C) → Some (Plan (Ok r)) ≡ newest (e ∷ h) → Costs e r.cost → ((d : C) → Costs e d → r.cost ≡ d) → (Shows e → ⊥) → Says K m (e ∷ h) (noted K card (Ok r))
     says_cost r is here only dumb =
         let best = best_more r.cost achieved_later (e, inl refl, here) (λ d r. ⊎_elim (λ x. inl (only d x)) inr (achieved_from d r)) card.cost s.cheapest in
         record {
@@ -113,7 +113,7 @@ module _ {C : Type 0} {K : Kind C} (k : Ordered K) where
         }
 
     -- an accepted proof
-    says_proof : Some Impossible ≡ newest (e ∷ h) → Shows e → Unsolvable m → ((d : C) → Costs e d → ⊥) → Says K m (e ∷ h) (ruled card (Ok tt))
+    says_proof : Some (Proof (Ok tt)) ≡ newest (e ∷ h) → Shows e → Unsolvable m → ((d : C) → Costs e d → ⊥) → Says K m (e ∷ h) (ruled card (Ok tt))
     says_proof is shows none free =
         let best = best_same achieved_later (λ d r. ⊎_elim (λ x. absurd (free d x)) (λ x. x) (achieved_from d r)) card.cost s.cheapest in
         record {
@@ -154,7 +154,7 @@ module _ {C : Type 0} {K : Kind C} (k : Ordered K) where
   finished_says m h card (Ok r) s right = says_cost m h card _ s right r refl refl (λ d x. x) (λ x. x)
   finished_says m h card (Err f) s right = says_quiet m h card _ s right _ refl (λ d x. x) (λ x. x)
 
-  proved_says : (m : Model) (h : History C) (card : Card C) (s : PartialState → SetAnswer) (p : List ℕ) (a : Ruling) → (a ≡ Ok tt → Unsolvable m) → Says K m h card → Right K m h (proved s p a) → Says K m (proved s p a ∷ h) (ruled card a)
+  proved_says : (m : Model) (h : History C) (card : Card C) (s : PartialState → Truth) (p : List ℕ) (a : Ruling) → (a ≡ Ok tt → Unsolvable m) → Says K m h card → Right K m h (proved s p a) → Says K m (proved s p a ∷ h) (ruled card a)
   proved_says m h card set p (Ok u) none s right = says_proof m h card _ s right refl tt (none refl) (λ d x. x)
   proved_says m h card set p (Err f) none s right = says_quiet m h card _ s right _ refl (λ d x. x) (λ x. x)
 
@@ -163,7 +163,7 @@ module _ {C : Type 0} {K : Kind C} (k : Ordered K) where
       subst (Keeps K m (planned p a ∷ h)) (sym e)
       (record { says = planned_says m h card p a s.says (s.idle, answer ∙ ap (λ u. plan_verdict K u p) s.says.same); idle = refl })
 
-  pub keeps_proof : (card after : Card C) (set : PartialState → SetAnswer) (p : List ℕ) (a : Ruling) → a ≡ proof_verdict (model card.task) set p → (a ≡ Ok tt → Unsolvable (model card.task)) → after ≡ ruled card a → (m : Model) (h : History C) → Keeps K m h card → Keeps K m (proved set p a ∷ h) after
+  pub keeps_proof : (card after : Card C) (set : PartialState → Truth) (p : List ℕ) (a : Ruling) → a ≡ proof_verdict (model card.task) set p → (a ≡ Ok tt → Unsolvable (model card.task)) → after ≡ ruled card a → (m : Model) (h : History C) → Keeps K m h card → Keeps K m (proved set p a ∷ h) after
   keeps_proof card after set p a answer none e m h s =
       subst (Keeps K m (proved set p a ∷ h)) (sym e)
       (record {

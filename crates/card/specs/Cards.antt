@@ -7,8 +7,7 @@ use Rattle.plans.specs.Verdicts.{Answer, begin}
 use Rattle.judge.specs.declared.fault.ProofFault.{ProofFault}
 use Rattle.card.specs.declared.card.Card.{Card}
 use Rattle.card.specs.declared.card.Walk.{Walk}
-use Rattle.card.specs.declared.card.Verdict.{Verdict}
-use Rattle.card.specs.declared.card.Verdict.TheVariants.{Reached, PlanRefused, Impossible, ProofRefused}
+use Rattle.card.specs.declared.card.Verdict.TheVariants.{Plan, Proof}
 
 -- what a judge of proofs answers
 abbrev pub Ruling : Type 0
@@ -23,24 +22,15 @@ abbrev pub better : {C : Type 0} → Kind C → Option C → C → C
 better K None c = c
 better K (Some d) c = cond (K.le d c) d c
 
--- the verdicts that answers are
-abbrev pub planned_verdict : {C : Type 0} → Answer C → Verdict C
-planned_verdict (Ok r) = Reached r
-planned_verdict (Err f) = PlanRefused f
-
-abbrev pub proved_verdict : {C : Type 0} → Ruling → Verdict C
-proved_verdict (Ok u) = Impossible
-proved_verdict (Err f) = ProofRefused f
-
 -- an accepted plan or walk leaves the least cost, a refused one leaves it as it is; either is the latest verdict
 abbrev pub noted : {C : Type 0} → Kind C → Card C → Answer C → Card C
-noted K card (Ok r) = record { task = card.task; cost = Some (better K card.cost r.cost); impossible = card.impossible; verdict = Some (Reached r) }
-noted K card (Err f) = record { task = card.task; cost = card.cost; impossible = card.impossible; verdict = Some (PlanRefused f) }
+noted K card (Ok r) = record { task = card.task; cost = Some (better K card.cost r.cost); impossible = card.impossible; verdict = Some (Plan (Ok r)) }
+noted K card (Err f) = record { task = card.task; cost = card.cost; impossible = card.impossible; verdict = Some (Plan (Err f)) }
 
 -- an accepted proof sets the mark, a refused one leaves it as it is; either is the latest verdict
 abbrev pub ruled : {C : Type 0} → Card C → Ruling → Card C
-ruled card (Ok u) = record { task = card.task; cost = card.cost; impossible = true; verdict = Some Impossible }
-ruled card (Err f) = record { task = card.task; cost = card.cost; impossible = card.impossible; verdict = Some (ProofRefused f) }
+ruled card (Ok u) = record { task = card.task; cost = card.cost; impossible = true; verdict = Some (Proof (Ok u)) }
+ruled card (Err f) = record { task = card.task; cost = card.cost; impossible = card.impossible; verdict = Some (Proof (Err f)) }
 
 -- a walk at the start
 abbrev pub set_out : {C : Type 0} → Kind C → Card C → Walk C

@@ -1,19 +1,20 @@
 -- The history of a card: its lodgings and walk calls since it was opened, with their answers.
 use Rattle.std.specs.Prelude.{◌≡◌, ℕ, ◌⊎◌, List, [], ◌∷◌, ◌++◌, Some, None, Ok, Err, Option}
 use Rattle.logic.specs.Partial.{PartialState}
-use Rattle.sets.specs.declared.answer.Answer.{Answer as SetAnswer}
+use Rattle.logic.specs.declared.truth.Truth.{Truth}
 use Rattle.costs.specs.Kind.{Kind}
 use Rattle.planning.specs.Model.{Model}
 use Rattle.plans.specs.declared.verdict.Reached.{Reached as ReachedState}
 use Rattle.plans.specs.Verdicts.{Answer, begin, next, run, judged, plan_verdict}
 use Rattle.judge.specs.Verdict.{proof_verdict}
 use Rattle.card.specs.declared.card.Verdict.{Verdict}
-use Rattle.card.specs.Cards.{Ruling, planned_verdict, proved_verdict}
+use Rattle.card.specs.declared.card.Verdict.TheVariants.{Plan, Proof}
+use Rattle.card.specs.Cards.{Ruling}
 
 -- one call on a card, with its paper and its answer; of a set there is what it answers to each cube
 pub data Event (C : Type 0) : Type 0 where
   planned : List ℕ → Answer C → Event C
-  proved : (PartialState → SetAnswer) → List ℕ → Ruling → Event C
+  proved : (PartialState → Truth) → List ℕ → Ruling → Event C
   begun : Event C
   stepped : ℕ → Answer C → Event C
   finished : Answer C → Event C
@@ -23,6 +24,7 @@ pub data Event (C : Type 0) : Type 0 where
 abbrev pub History : Type 0 → Type 0
 History C = List (Event C)
 
+-- x is one of the list
 abbrev pub In : {X : Type 0} → X → List X → Type 0
 In x [] = ⊥
 In x (y ∷ ys) = (x ≡ y) ⊎ In x ys
@@ -56,6 +58,7 @@ Achieved {C} h c = (e : Event C) × In e h × Costs e c
 abbrev pub Disproved : {C : Type 0} → History C → Type 0
 Disproved {C} h = (e : Event C) × In e h × Shows e
 
+-- the walk under way, by one accepted step more
 abbrev pub longer : Option (List ℕ) → ℕ → Option (List ℕ)
 longer None o = None
 longer (Some os) o = Some (os ++ (o ∷ []))
@@ -74,11 +77,11 @@ walk (given_up ∷ h) = None
 -- the newest verdict on a lodging or a finish
 abbrev pub newest : {C : Type 0} → History C → Option (Verdict C)
 newest [] = None
-newest (planned p a ∷ h) = Some (planned_verdict a)
-newest (proved s p a ∷ h) = Some (proved_verdict a)
+newest (planned p a ∷ h) = Some (Plan a)
+newest (proved s p a ∷ h) = Some (Proof a)
 newest (begun ∷ h) = newest h
 newest (stepped o a ∷ h) = newest h
-newest (finished a ∷ h) = Some (planned_verdict a)
+newest (finished a ∷ h) = Some (Plan a)
 newest (given_up ∷ h) = newest h
 
 -- after h the event may come, and its answer is the one that the definitions fix
@@ -91,6 +94,7 @@ Right {C} K m h (stepped o a) = (os : List ℕ) × (r : ReachedState C) × (walk
 Right K m h (finished a) = (os : List ℕ) × (walk h ≡ Some os) × (a ≡ judged K m os)
 Right K m h given_up = (os : List ℕ) × (walk h ≡ Some os)
 
+-- each event of the history was in turn, with the answer that the definitions fix
 abbrev pub AllRight : {C : Type 0} → Kind C → Model → History C → Type 0
 AllRight K m [] = Unit {0}
 AllRight K m (e ∷ h) = Right K m h e × AllRight K m h

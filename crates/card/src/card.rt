@@ -3,17 +3,13 @@ use judge::fault::ProofFault;
 use plans::verdict::{PlanFault, Reached};
 use task::place::Task;
 
-/// What a lodging or a finished walk was answered.
+/// What a plan, a step, a finished walk or a proof was answered.
 #[derive(Clone, Copy)]
 pub enum Verdict<C> {
-    /// A plan or a walk was accepted.
-    Reached(Reached<C>),
-    /// A plan or a walk was refused.
-    PlanRefused(PlanFault),
-    /// A proof was accepted: no plan exists.
-    Impossible,
-    /// A proof was refused.
-    ProofRefused(ProofFault),
+    /// Where a plan or a walk leads, if it was accepted.
+    Plan(Result<Reached<C>, PlanFault>),
+    /// Whether a proof was accepted: then no plan exists.
+    Proof(Result<(), ProofFault>),
 }
 
 /// A task, the least accepted cost, whether a proof was accepted that no plan exists, and the latest verdict.

@@ -1,7 +1,5 @@
 //! A card, at rest or on a walk, and the calls that may be made on it.
-use crate::card::{Card, Walk};
-use judge::fault::ProofFault;
-use plans::verdict::{PlanFault, Reached};
+use crate::card::{Card, Verdict, Walk};
 
 /// A card at rest, or on a walk.
 pub enum Desk<C> {
@@ -10,12 +8,12 @@ pub enum Desk<C> {
 }
 
 /// A call on a card, with its papers.
-#[derive(Drop)]
-pub enum Call<S> {
+#[derive_where(Clone, Copy)]
+pub enum Call<'a, S> {
     /// Lodges a plan.
-    Plan(Vec<u8>),
+    Plan(&'a [u8]),
     /// Lodges a proof over a set.
-    Proof(S, Vec<u8>),
+    Proof(&'a S, &'a [u8]),
     /// Begins a walk.
     Begin,
     /// Takes a step of the walk.
@@ -29,10 +27,8 @@ pub enum Call<S> {
 /// What a call was answered.
 #[derive(Clone, Copy)]
 pub enum Reply<C> {
-    /// A plan, a step or a finish was judged.
-    Judged(Result<Reached<C>, PlanFault>),
-    /// A proof was judged.
-    Ruled(Result<(), ProofFault>),
+    /// A plan, a step, a finish or a proof was judged.
+    Judged(Verdict<C>),
     /// A walk was begun or given up.
     Done,
     /// The card cannot take the call as it stands: nothing was done.

@@ -14,11 +14,12 @@ use crate::card::{Card, Verdict, Walk};
 use costs::cost::Cost;
 use judge::fault::ProofFault;
 use judge::proof::judge_proof;
-use plans::judge::judge_plan;
+use plans::judge::{begin, judge_plan};
 use plans::verdict::{PlanFault, Reached};
 use sets::set::StateSet;
 use task::place::Task;
 
+// Kept: a card does not hold its history, so the law is a clause of each call and no invariant of the type.
 impl<C: Cost> Card<C> {
     /// A card on a task, with no cost, mark or verdict: a new history begins.
     pub fn open(task: Task) -> Card<C>
@@ -37,36 +38,25 @@ impl<C: Cost> Card<C> {
     fn better(&self, cost: C) -> C
         ensures { result ≡ better C.Cost.kind self.now.cost cost }
     {
-        match self.cost {
-            Some(old) => { if old.at_most(&cost) { old } else { cost } }
-            None => cost,
-        }
+        self.cost.map_or(cost, |old| old.min(cost))
     }
 
     /// Notes what a plan or a finished walk was answered.
     pub(crate) fn note(&mut self, answer: Result<Reached<C>, PlanFault>)
         ensures { self.new ≡ noted C.Cost.kind self.old answer }
     {
-        match answer {
-            Ok(reached) => {
-                self.cost = Some(self.better(reached.cost));
-                self.verdict = Some(Verdict::Reached(reached));
-            }
-            Err(fault) => self.verdict = Some(Verdict::PlanRefused(fault)),
+        if let Ok(reached) = &answer {
+            self.cost = Some(self.better(reached.cost));
         }
+        self.verdict = Some(Verdict::Plan(answer));
     }
 
     /// Notes what a proof was answered.
     fn rule(&mut self, answer: Result<(), ProofFault>)
         ensures { self.new ≡ ruled self.old answer }
     {
-        match answer {
-            Ok(()) => {
-                self.impossible = true;
-                self.verdict = Some(Verdict::Impossible);
-            }
-            Err(fault) => self.verdict = Some(Verdict::ProofRefused(fault)),
-        }
+        self.impossible |= answer.is_ok();
+        self.verdict = Some(Verdict::Proof(answer));
     }
 
     /// Lodges a plan: accepted exactly when it leads from the start to the goal, at a cost that its kind can hold.
@@ -100,14 +90,10 @@ impl<C: Cost> Card<C> {
         ensures after { result ≡ set_out C.Cost.kind self }
         ensures law { (m : Model) (h : History C) → Keeps C.Cost.kind m h self → Walks C.Cost.kind m (begun ∷ h) result }
     {
-        let state = self.task.start();
+        let reached = begin(&self.task);
         Walk {
             card: self,
-            reached: Reached {
-                state,
-                steps: 0,
-                cost: C::zero(),
-            },
+            reached,
         }
     }
 }

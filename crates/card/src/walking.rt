@@ -19,9 +19,8 @@ impl<C: Cost> Walk<C> {
         ensures after { self.new ≡ moved self.old result }
         ensures law { (m : Model) (h : History C) → Walks C.Cost.kind m h self.old → Walks C.Cost.kind m (stepped operator result ∷ h) self.new }
     {
-        let reached = take_step(&self.card.task, &self.reached, operator)?;
-        self.reached = reached;
-        Ok(reached)
+        self.reached = take_step(&self.card.task, &self.reached, operator)?;
+        Ok(self.reached)
     }
 
     /// Finishes the walk: the card comes back, judged as the plan of the accepted steps would be.

@@ -4,7 +4,7 @@ ghost use Rattle.planning.specs.Model.{Model};
 ghost use Rattle.card.specs.History.{History};
 ghost use Rattle.card.specs.Desks.{Stands, Next, Works};
 
-use crate::card::Card;
+use crate::card::{Card, Verdict};
 use crate::desk::{Call, Desk, Reply};
 use costs::cost::Cost;
 use sets::set::StateSet;
@@ -12,18 +12,18 @@ use std::alloc::{AllocError, Global};
 
 impl<C: Cost> Desk<C> {
     /// Takes one call; one out of turn leaves everything as it was.
-    pub fn obey<S: StateSet>(self, call: &Call<S>) -> (Desk<C>, Reply<C>)
+    pub fn obey<S: StateSet>(self, call: &Call<'_, S>) -> (Desk<C>, Reply<C>)
         ensures { (m : Model) (h : History C) → Stands C.Cost.kind m h self → (g : History C) × Next S.StateSet.answer call.now result.1 h g × Stands C.Cost.kind m g result.0 }
     {
         match self {
             Desk::Idle(mut card) => match call {
                 Call::Plan(paper) => {
                     let answer = card.lodge_plan(paper);
-                    (Desk::Idle(card), Reply::Judged(answer))
+                    (Desk::Idle(card), Reply::Judged(Verdict::Plan(answer)))
                 }
                 Call::Proof(set, paper) => {
                     let answer = card.lodge_proof(set, paper);
-                    (Desk::Idle(card), Reply::Ruled(answer))
+                    (Desk::Idle(card), Reply::Judged(Verdict::Proof(answer)))
                 }
                 Call::Begin => (Desk::Busy(card.begin()), Reply::Done),
                 Call::Step(_) | Call::Finish | Call::GiveUp => (Desk::Idle(card), Reply::OutOfTurn),
@@ -31,11 +31,11 @@ impl<C: Cost> Desk<C> {
             Desk::Busy(mut walk) => match call {
                 Call::Step(operator) => {
                     let answer = walk.step(*operator);
-                    (Desk::Busy(walk), Reply::Judged(answer))
+                    (Desk::Busy(walk), Reply::Judged(Verdict::Plan(answer)))
                 }
                 Call::Finish => {
                     let (card, answer) = walk.finish();
-                    (Desk::Idle(card), Reply::Judged(answer))
+                    (Desk::Idle(card), Reply::Judged(Verdict::Plan(answer)))
                 }
                 Call::GiveUp => (Desk::Idle(walk.give_up()), Reply::Done),
                 Call::Plan(_) | Call::Proof(_, _) | Call::Begin => {
@@ -50,10 +50,11 @@ impl<C: Cost> Desk<C> {
     pub fn work<S: StateSet>(
         self,
         heap: Global,
-        calls: &[Call<S>],
+        calls: &[Call<'_, S>],
     ) -> (Desk<C>, Result<Vec<Reply<C>>, AllocError>)
         ensures { (m : Model) (h : History C) → Stands C.Cost.kind m h self → MatchResult result.1 (λ replies. Works C.Cost.kind S.StateSet.answer m calls.now replies.items h result.0) (λ _. result.0 ≡ self) }
     {
+        // Kept: each call moves the desk on and an error hands it back, which a closure of a chain and `?` cannot do.
         let mut replies = match Vec::with_capacity(heap, calls.len()) {
             Ok(replies) => replies,
             Err(error) => return (self, Err(error)),

@@ -6,21 +6,20 @@ use Rattle.formulas.specs.Formula.{Effect, var, neg, put, both, when}
 use Rattle.formulas.specs.Results.{result}
 use Rattle.task.specs.Contents.{task_in}
 use Rattle.task.specs.Meaning.{model_of}
-use Rattle.costs.specs.Kinds.{minutes, crew, pair}
-use Rattle.costs.specs.declared.minutes.Minutes.{Minutes}
-use Rattle.costs.specs.declared.crew.Crew.{Crew}
+use Rattle.costs.specs.Kinds.{Minutes, Crew, amount, minutes, crew, pair}
 use Rattle.costs.specs.declared.pair.Pair.{Pair}
 use Rattle.plans.specs.declared.verdict.PlanFault.{PlanFault}
 use Rattle.plans.specs.declared.verdict.PlanFault.TheVariants.{Inapplicable, GoalFalse}
 use Rattle.plans.specs.Verdicts.{Answer as PlanAnswer, reached, plan_verdict}
 use Rattle.plans.specs.Faults as plan_fault
-use Rattle.sets.specs.declared.answer.Answer.{Answer}
-use Rattle.sets.specs.declared.answer.Answer.TheVariants.{Inside, Open}
+use Rattle.logic.specs.declared.truth.Truth.{Truth}
+use Rattle.logic.specs.declared.truth.Truth.TheVariants.{True as Inside, Open}
 use Rattle.setpapers.specs.Lists.{list_in, list_answer}
 use Rattle.setpapers.specs.FormulaSets.{formula_in, formula_answer}
 use Rattle.trees.specs.Tree.{preorder}
 use Rattle.judge.specs.declared.fault.ProofFault.{ProofFault}
-use Rattle.judge.specs.declared.fault.ProofFault.TheVariants.{StartNotInside, Unsettled}
+use Rattle.judge.specs.declared.fault.ProofFault.TheVariants.{StartNotInside, Tree}
+use Rattle.trees.specs.declared.fault.TreeFault.TheVariants.{Unsettled}
 use Rattle.judge.specs.Faults as proof_fault
 use Rattle.judge.specs.Lists.{holds_listed, plain_of}
 use Rattle.judge.specs.Plain.{plain_tree}
@@ -29,7 +28,7 @@ use Rattle.cases.specs.Papers.{blade_paper, variant_paper, blade, variant, plan_
 
 -- so many minutes, and a crew of so many
 abbrev cost : ℕ → ℕ → Pair Minutes Crew
-cost m c = record { first = record { 0 = m }; second = record { 0 = c } }
+cost m c = record { first = amount m; second = amount c }
 
 -- the verdict on a plan for the blade task, by minutes and then crew
 abbrev plan : List ℕ → PlanAnswer (Pair Minutes Crew)
@@ -43,11 +42,11 @@ pub record PlanRefused (paper : List ℕ) (fault : PlanFault) (n at : ℕ) : Typ
   pub place : plan_fault.place_of fault ≡ at
 
 -- the verdict on a proof for the variant over a set that answers so
-abbrev proof : (PartialState → Answer) → List ℕ → Result (Unit {0}) ProofFault
+abbrev proof : (PartialState → Truth) → List ℕ → Result (Unit {0}) ProofFault
 proof ask paper = proof_verdict (model_of variant) ask paper
 
 -- the proof is refused with this fault, which has the number n and the place `at`
-pub record ProofRefused (ask : PartialState → Answer) (paper : List ℕ) (fault : ProofFault) (n at : ℕ) : Type 0 where
+pub record ProofRefused (ask : PartialState → Truth) (paper : List ℕ) (fault : ProofFault) (n at : ℕ) : Type 0 where
   pub answer : proof ask paper ≡ Err fault
   pub number : proof_fault.number_of fault ≡ n
   pub layer : proof_fault.layer_of fault ≡ InProof
@@ -90,7 +89,7 @@ pub record WorkedExamples : Type 0 where
   pub proof_by_formula : proof (formula_answer 3 neither) short_proof ≡ Ok tt
   -- over the list 0 its leaf at 4 is not settled; over the list 1 the start is not inside
   pub zero_read : list_in 3 list_of_zero ≡ Ok zero_alone
-  pub proof_unsettled : ProofRefused (list_answer 3 zero_alone) short_proof (Unsettled 4) 18 4
+  pub proof_unsettled : ProofRefused (list_answer 3 zero_alone) short_proof (Tree (Unsettled 4)) 18 4
   pub one_read : list_in 3 list_of_one ≡ Ok one_alone
   pub proof_without_start : ProofRefused (list_answer 3 one_alone) short_proof StartNotInside 16 0
   -- the plain tree of the list 0,1 over three variables, and the plain proof of it for the variant, which is accepted

@@ -7,8 +7,6 @@ ghost use Rattle.cases.specs.Examples.{WorkedExamples};
 mod tests;
 
 /// That the blade task, its plans, its sets and its proofs are read and judged as the table of examples says.
-pub fn worked_examples_hold() -> u8
+pub fn worked_examples_hold()
     ensures { WorkedExamples }
-{
-    0
-}
+{}

@@ -2,7 +2,7 @@
 use costs::kinds::Minutes;
 use plans::judge::judge_plan;
 use plans::verdict::{PlanFault, Reached};
-use records::{PaperKind, single};
+use records::{Fault, PaperKind, single};
 use setpapers::list::ListSet;
 use std::alloc::Global;
 use std::test::Fail;
@@ -41,22 +41,24 @@ fn task_paper(
     Ok(paper)
 }
 
+/// The number and the place of a fault; number 0, and what was counted, where there is none.
+fn told<F: Fault + Drop>(answer: Result<usize, F>) -> (u8, usize) {
+    match answer {
+        Ok(count) => (0, count),
+        Err(fault) => (fault.number(), fault.place()),
+    }
+}
+
 /// The number and the place that a task's paper earns; number 0 if it is accepted.
 fn task_answer(heap: Global, paper: &[u8]) -> Result<(u8, usize), Fail> {
     let mut task = Task::new(heap)?;
-    match task.read(paper) {
-        Ok(()) => Ok((0, 0)),
-        Err(fault) => Ok((fault.number(), fault.place())),
-    }
+    Ok(told(task.read(paper).map(|()| 0)))
 }
 
 /// The number and the place that a plan earns, by minutes; number 0 and the number of steps if it is accepted.
 fn plan_answer(task: &Task, plan: &[u8]) -> (u8, usize) {
     let answer: Result<Reached<Minutes>, PlanFault> = judge_plan(task, plan);
-    match answer {
-        Ok(reached) => (0, reached.steps as usize),
-        Err(fault) => (fault.number(), fault.place()),
-    }
+    told(answer.map(|reached| reached.steps as usize))
 }
 
 /// The paper of a list of the first so many states.
@@ -73,10 +75,7 @@ fn list_paper(heap: Global, count: u64) -> Result<Vec<u8>, Fail> {
 /// The number and the place that a list of states of 11 variables earns; number 0 if it is accepted.
 fn list_answer(paper: &[u8]) -> (u8, usize) {
     let mut list = ListSet::empty(11);
-    match list.read(11, paper) {
-        Ok(()) => (0, 0),
-        Err(fault) => (fault.number(), fault.place()),
-    }
+    told(list.read(11, paper).map(|()| 0))
 }
 
 /// The paper of one record of this kind, whose body is so many of this entry.
@@ -92,10 +91,7 @@ fn paper_of(heap: Global, kind: u8, entry: &[u8], count: u32) -> Result<Vec<u8>,
 
 /// The number that a paper as a proof's one record earns; 0 if it is such a record.
 fn record_answer(paper: &[u8]) -> u8 {
-    match single(paper, PaperKind::Proof) {
-        Ok(_) => 0,
-        Err(fault) => fault.number(),
-    }
+    told(single(paper, PaperKind::Proof).map(|_body| 0)).0
 }
 
 #[test]

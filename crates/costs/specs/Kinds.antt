@@ -1,73 +1,85 @@
 -- The kinds of cost, and that the order of each is total.
 use Rattle.std.specs.Prelude.{◌≡◌, ℕ, ◌+◌, ◌≤◌, max, Bool, true, false, cond, ◌⊎◌, Some, None, Option, nat_le, refl}
-use Rattle.std.proofs.Common.{sym, ◌∙◌, inl, inr, ⊎_elim, arith}
+use Rattle.std.specs.Cmp.{IsTotalOrder}
+use Rattle.std.specs.Option.{option_map}
+use Rattle.std.specs.declared.cmp.Ordering.{Ordering}
+use Rattle.std.specs.declared.cmp.Ordering.TheVariants.{Less, Equal, Greater}
+use Rattle.std.specs.Ordering.{is_le, nat_cmp, ordering_then, ordering_reverse}
+use Rattle.std.proofs.Common.{sym, ap, ◌∙◌, inl, inr, ⊎_elim, arith}
 use Rattle.std.proofs.lemmas.Bool.{leb-true, le-leb, false≢true, cases_Bool, cases_lt}
+use Rattle.std.proofs.lemmas.Bool.Decides.{nat_tests}
 use Rattle.costs.specs.Kind.{Kind, Ordered}
-use Rattle.costs.specs.declared.minutes.Minutes.{Minutes}
-use Rattle.costs.specs.declared.crew.Crew.{Crew}
-use Rattle.costs.specs.declared.steps.Steps.{Steps}
+use Rattle.costs.specs.declared.amount.Amount.{Amount}
+use Rattle.costs.specs.declared.kinds.OfMinutes.{OfMinutes}
+use Rattle.costs.specs.declared.kinds.OfCrew.{OfCrew}
+use Rattle.costs.specs.declared.kinds.OfSteps.{OfSteps}
 use Rattle.costs.specs.declared.pair.Pair.{Pair}
 
--- the largest cost in minutes, crew and steps
+-- the largest count
 abbrev pub largest : ℕ
 largest = 4294967295
 
+-- the cost of that count
+abbrev pub amount : {Q : Type 0} → ℕ → Amount Q
+amount n = record { count = n; of = record {} }
+
+-- A count of some quantity: none is 0, an operator counts as `one` says, two are put together as `together` says, and
+-- their order is that of numbers.
+abbrev pub counted : {Q : Type 0} → (ℕ → ℕ → ℕ) → (ℕ → ℕ → Option ℕ) → Kind (Amount Q)
+counted one together = record {
+  zero = amount 0;
+  one = λ m c. amount (one m c);
+  join = λ a b. option_map amount (together a.count b.count);
+  le = λ a b. nat_le a.count b.count;
+}
+
+-- the sum, unless it is beyond the largest
+abbrev pub summed : ℕ → ℕ → Option ℕ
+summed a b = cond (nat_le (a + b) largest) (Some (a + b)) None
+
+-- the larger of the two, which is never refused
+abbrev pub larger : ℕ → ℕ → Option ℕ
+larger a b = Some (max a b)
+
+-- a cost that counts minutes
+abbrev pub Minutes : Type 0
+Minutes = Amount OfMinutes
+
+-- a cost that counts people
+abbrev pub Crew : Type 0
+Crew = Amount OfCrew
+
+-- a cost that counts steps
+abbrev pub Steps : Type 0
+Steps = Amount OfSteps
+
 -- Minutes: their sum, unless it is beyond the largest.
 abbrev pub minutes : Kind Minutes
-minutes = record {
-  zero = record { 0 = 0 };
-  one = λ m c. record { 0 = m };
-  join = λ a b. cond (nat_le (a.0 + b.0) largest) (Some (record { 0 = a.0 + b.0 })) None;
-  le = λ a b. nat_le a.0 b.0;
-}
+minutes = counted (λ m c. m) summed
 
 -- Crew: the larger of the two, which is never refused.
 abbrev pub crew : Kind Crew
-crew = record {
-  zero = record { 0 = 0 };
-  one = λ m c. record { 0 = c };
-  join = λ a b. Some (record { 0 = max a.0 b.0 });
-  le = λ a b. nat_le a.0 b.0;
-}
+crew = counted (λ m c. c) larger
 
 -- Steps: 1 for each operator, and their sum, unless it is beyond the largest.
 abbrev pub steps : Kind Steps
-steps = record {
-  zero = record { 0 = 0 };
-  one = λ m c. record { 0 = 1 };
-  join = λ a b. cond (nat_le (a.0 + b.0) largest) (Some (record { 0 = a.0 + b.0 })) None;
-  le = λ a b. nat_le a.0 b.0;
-}
+steps = counted (λ m c. 1) summed
 
 -- Of two numbers one is at most the other.
 either_way : (m n : ℕ) → (m ≤ n) ⊎ (n ≤ m)
 either_way m n = ⊎_elim (λ h. inl (omega arith)) inr (cases_lt m n)
 
--- A kind is ordered where its order is that of a number which tells its costs apart.
-by_number : {C : Type 0} (K : Kind C) (f : C → ℕ) → ((a b : C) → K.le a b ≡ nat_le (f a) (f b)) → ((a b : C) → f a ≡ f b → a ≡ b) → Ordered K
-by_number K f is apart = record {
-  total = λ a b. ⊎_elim (λ h. inl (to a b h)) (λ h. inr (to b a h)) (either_way (f a) (f b));
-  trans = λ a b c h k. to a c (omega (arith, from a b h, from b c k));
-  antisym = λ a b h k. apart a b (omega (arith, from a b h, from b a k));
+-- The order of counts is total, whatever is counted.
+pub counted_ordered : {Q : Type 0} (one : ℕ → ℕ → ℕ) (together : ℕ → ℕ → Option ℕ) → Ordered (counted {Q = Q} one together)
+counted_ordered one together = record {
+  total = λ a b. ⊎_elim (λ h. inl (le-leb _ _ h)) (λ h. inr (le-leb _ _ h)) (either_way a.count b.count);
+  trans = λ a b c h k. le-leb _ _ (omega (arith, leb-true _ _ h, leb-true _ _ k));
+  antisym = λ a b h k. ap amount (omega (arith, leb-true _ _ h, leb-true _ _ k));
 }
-  where
-    to : (a b : _) → f a ≤ f b → K.le a b ≡ true
-    to a b h = is a b ∙ le-leb (f a) (f b) h
 
-    from : (a b : _) → K.le a b ≡ true → f a ≤ f b
-    from a b h = leb-true (f a) (f b) (sym (is a b) ∙ h)
-
--- The order of minutes is total.
-pub minutes_ordered : Ordered minutes
-minutes_ordered = by_number minutes (λ c. c.0) (λ a b. refl) (λ a b e. λ i. record { 0 = e i })
-
--- The order of crew is total.
-pub crew_ordered : Ordered crew
-crew_ordered = by_number crew (λ c. c.0) (λ a b. refl) (λ a b e. λ i. record { 0 = e i })
-
--- The order of steps is total.
-pub steps_ordered : Ordered steps
-steps_ordered = by_number steps (λ c. c.0) (λ a b. refl) (λ a b e. λ i. record { 0 = e i })
+-- Comparing counts is comparing their numbers.
+pub counted_compared : {Q : Type 0} (a b : Amount Q) → is_le (ordering_then (nat_cmp a.count b.count) Equal) ≡ nat_le a.count b.count
+counted_compared a b = grind (arith, nat_tests)
 
 -- By the first part, and among equals by the second: given whether the first is at most, whether it is at least, and
 -- whether the second is at most.
@@ -135,3 +147,16 @@ module _ {A B : Type 0} {K : Kind A} {L : Kind B} (k : Ordered K) (l : Ordered L
   -- The order of pairs is total where those of both parts are.
   pub pair_ordered : Ordered (pair K L)
   pair_ordered = record { total = pair_total; trans = pair_trans; antisym = pair_antisym }
+
+-- Comparing by the first part, and among equals by the second, is the lexicographic order.
+lexi_compared : (f s : Ordering) → is_le (ordering_then f s) ≡ lexi (is_le f) (is_le (ordering_reverse f)) (is_le s)
+lexi_compared Less s = refl
+lexi_compared Equal s = refl
+lexi_compared Greater s = refl
+
+module _ {A B : Type 0} (K : Kind A) (L : Kind B) (R : A → A → Ordering) (S : B → B → Ordering) (total : IsTotalOrder R) (first : (a b : A) → is_le (R a b) ≡ K.le a b) (second : (a b : B) → is_le (S a b) ≡ L.le a b) where
+  -- Where the parts are compared by their kinds' orders, pairs are compared by that of their kind.
+  pub pair_compared : (p q : Pair A B) → is_le (ordering_then (R p.first q.first) (S p.second q.second)) ≡ (pair K L).le p q
+  pair_compared p q =
+      lexi_compared (R p.first q.first) (S p.second q.second)
+      ∙ λ i. lexi (first p.first q.first i) ((ap is_le (sym (total.antisymm q.first p.first)) ∙ first q.first p.first) i) (second p.second q.second i)

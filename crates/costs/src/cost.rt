@@ -1,9 +1,10 @@
 //! What a plan may cost.
 ghost use Rattle.std.specs.Prelude.{◌≡◌};
+ghost use Rattle.std.specs.Ordering.{is_le};
 ghost use Rattle.costs.specs.Kind.{Kind, Ordered};
 
 /// A kind of cost: a zero, the cost of an operator, joining, and an order.
-pub trait Cost: Copy {
+pub trait Cost: Copy + Ord {
     /// What the kind's zero, operators, joining and order are.
     ghost kind: { Kind Self };
 
@@ -14,6 +15,7 @@ pub trait Cost: Copy {
     fn zero() -> Self
         ensures { result ≡ kind.zero };
 
+    // Kept: two numbers; a struct of them would need a crate of its own below tasks and costs, which know nothing of each other.
     /// The cost of an operator that takes these minutes and this crew.
     fn of(minutes: u32, crew: u32) -> Self
         ensures { result ≡ kind.one minutes crew };
@@ -22,7 +24,6 @@ pub trait Cost: Copy {
     fn join(self, other: Self) -> Option<Self>
         ensures { result ≡ kind.join self other };
 
-    /// Whether this cost is no larger than the other.
-    fn at_most(&self, other: &Self) -> bool
-        ensures { result ≡ kind.le self.now other.now };
+    /// The order that costs are compared by is the kind's.
+    ghost compared: { (a b : Self) → is_le (Self.cmp a b) ≡ kind.le a b };
 }

@@ -1,9 +1,7 @@
 //! Kinds of cost, each with an order that is shown to be total.
 #![tactic(auto)]
 
+pub mod amount;
 pub mod cost;
-mod crew;
 pub mod kinds;
-mod minutes;
 mod pair;
-mod steps;

@@ -1,12 +1,12 @@
 //! Pairs of costs.
-ghost use Rattle.costs.specs.Kinds.{pair, pair_ordered};
+ghost use Rattle.costs.specs.Kinds.{pair, pair_ordered, pair_compared};
 ghost use Rattle.costs.specs.Printed.{parted};
 
 use crate::cost::Cost;
 use std::fmt;
 
 /// Two costs, joined part by part, and ordered by the first part and then the second.
-#[derive(Clone, Copy)]
+#[derive(Clone, Copy, PartialEq, Eq, PartialOrd, Ord)]
 pub struct Pair<A, B> {
     pub first: A,
     pub second: B,
@@ -16,6 +16,8 @@ impl<A: Cost, B: Cost> Cost for Pair<A, B> {
     ghost kind = { pair A.Cost.kind B.Cost.kind };
 
     ghost ordered = { pair_ordered A.Cost.ordered B.Cost.ordered };
+
+    ghost compared = { pair_compared A.Cost.kind B.Cost.kind A.cmp B.cmp A.Ord.total A.Cost.compared B.Cost.compared };
 
     fn zero() -> Pair<A, B> {
         Pair {
@@ -35,11 +37,6 @@ impl<A: Cost, B: Cost> Cost for Pair<A, B> {
         let first = self.first.join(other.first)?;
         let second = self.second.join(other.second)?;
         Some(Pair { first, second })
-    }
-
-    fn at_most(&self, other: &Pair<A, B>) -> bool {
-        self.first.at_most(&other.first)
-            && (!other.first.at_most(&self.first) || self.second.at_most(&other.second))
     }
 }
 

@@ -71,10 +71,3 @@ module _ (n : ℕ) (nodes : List Node) (ord : Ordered n nodes) where
       effect_same n i (get_or nodes i False) (formula_at nodes) (effect_to i nodes) (effect_at nodes) (ord i)
       (λ j hj. effect_deep i (suc j) j hj (omega arith))
       ∙ ap (effect (formula_at nodes) (effect_at nodes)) e
-
-  -- the nodes that a node names come before it
-  pub not_below : (i a : ℕ) → Not a ≡ get_or nodes i False → a < i
-  not_below i a e = ltb-true a i (ap (ordered n i) e ∙ ord i)
-
-  pub when_below : (i a b : ℕ) → When a b ≡ get_or nodes i False → b < i
-  when_below i a b e = ltb-true b i (and_parts _ _ (ap (ordered n i) e ∙ ord i)).1

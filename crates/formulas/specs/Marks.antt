@@ -6,6 +6,10 @@ use Rattle.formulas.specs.Names.{among, clash, claimed}
 abbrev pub marked : List Bool → ℕ → List Bool
 marked marks j = cond (nat_lt j 1024) (slice_set marks j true) marks
 
+-- whether there is a mark of that number, and it is not set
+abbrev pub free : List Bool → ℕ → Bool
+free marks j = not (slice_index_or marks j true)
+
 -- of the numbers below 1024 those in ns are marked
 pub record Marks (marks : List Bool) (ns : List ℕ) : Type 0 where
   pub size : length marks ≡ 1024

@@ -8,7 +8,7 @@ ghost use Rattle.formulas.specs.Results.{successor, result as resulting};
 
 use crate::node::Node;
 use crate::table::{NodeTable, value};
-use logic::change::{Change, Mask};
+use logic::change::Change;
 use logic::cube::Cube;
 use logic::truth::Truth;
 
@@ -17,40 +17,17 @@ fn change_at<N: NodeTable>(nodes: &N, at: usize, cube: &Cube) -> Change
     ensures { Makes (truth (partial cube.now)) (effect_at (N.NodeTable.nodes nodes.now) at) result }
 {
     match nodes.node(at) {
-        Node::Set(v) => Change {
-            set: Mask::one(v),
-            clear: Mask::none(),
-        },
-        Node::Clear(v) => Change {
-            set: Mask::none(),
-            clear: Mask::one(v),
-        },
+        Node::Set(v) => Change::set(v),
+        Node::Clear(v) => Change::clear(v),
         Node::Both(a, b) => {
-            let first = change_at(nodes, a as usize, cube);
-            let second = change_at(nodes, b as usize, cube);
-            Change {
-                set: first.set.or(second.set),
-                clear: first.clear.or(second.clear),
-            }
+            change_at(nodes, a as usize, cube).or(change_at(nodes, b as usize, cube))
         }
         Node::When(f, e) => match value(nodes, f as usize, cube) {
-            Truth::False => Change {
-                set: Mask::none(),
-                clear: Mask::none(),
-            },
+            Truth::False => Change::none(),
             Truth::True => change_at(nodes, e as usize, cube),
-            Truth::Open => {
-                let change = change_at(nodes, e as usize, cube);
-                Change {
-                    set: change.set.perhaps(),
-                    clear: change.clear.perhaps(),
-                }
-            }
+            Truth::Open => change_at(nodes, e as usize, cube).perhaps(),
         },
-        _ => Change {
-            set: Mask::none(),
-            clear: Mask::none(),
-        },
+        _ => Change::none(),
     }
 }
 

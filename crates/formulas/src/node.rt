@@ -1,9 +1,10 @@
 //! The nodes that formulas and effects are written in.
 ghost use Rattle.std.specs.Prelude.{◌≡◌};
 ghost use Rattle.formulas.specs.Sorts.{formula_node};
-ghost use Rattle.formulas.specs.Written.{decoded};
+ghost use Rattle.formulas.specs.Written.{written};
 
 /// A formula or an effect over variables, and over other nodes by their numbers.
+// Kept: by numbers and not by `Box`, since papers write them so, and a set's nodes are read where they lie, with no heap.
 #[derive(Clone, Copy)]
 pub enum Node {
     False,
@@ -19,41 +20,50 @@ pub enum Node {
     When(u16, u16),
 }
 
-impl Node {
-    /// The node that a tag and two operands write, if they do; an unused operand is 0.
-    pub fn decode(tag: u8, a: u16, b: u16) -> Option<Node>
-        ensures { result ≡ decoded tag a b }
-    {
+/// Five bytes that write no node.
+#[derive(Clone, Copy, PartialEq, Eq, Debug)]
+pub struct NoNode;
+
+/// The node that an entry writes: a tag, and two operands; an unused operand is 0.
+impl TryFrom<[u8; 5]> for Node {
+    type Error = NoNode;
+
+    ghost try_from_gives = { λ entry r. r ≡ written entry };
+
+    // Kept: matched by tag and operands; a match on the five bytes made the answers of a formula set take twice as long.
+    fn try_from([tag, a0, a1, b0, b1]: [u8; 5]) -> Result<Node, NoNode> {
+        let a = u16::from_le_bytes([a0, a1]);
+        let b = u16::from_le_bytes([b0, b1]);
         match (tag, a, b) {
-            (0, 0, 0) => Some(Node::False),
-            (1, 0, 0) => Some(Node::True),
-            (2, 0..256, 0) => Some(Node::Variable(a as u8)),
-            (3, _, 0) => Some(Node::Not(a)),
-            (4, _, _) => Some(Node::And(a, b)),
-            (5, _, _) => Some(Node::Or(a, b)),
-            (6, 0, 0) => Some(Node::Empty),
-            (7, 0..256, 0) => Some(Node::Set(a as u8)),
-            (8, 0..256, 0) => Some(Node::Clear(a as u8)),
-            (9, _, _) => Some(Node::Both(a, b)),
-            (10, _, _) => Some(Node::When(a, b)),
-            _ => None,
+            (0, 0, 0) => Ok(Node::False),
+            (1, 0, 0) => Ok(Node::True),
+            (2, 0..256, 0) => Ok(Node::Variable(a as u8)),
+            (3, _, 0) => Ok(Node::Not(a)),
+            (4, _, _) => Ok(Node::And(a, b)),
+            (5, _, _) => Ok(Node::Or(a, b)),
+            (6, 0, 0) => Ok(Node::Empty),
+            (7, 0..256, 0) => Ok(Node::Set(a as u8)),
+            (8, 0..256, 0) => Ok(Node::Clear(a as u8)),
+            (9, _, _) => Ok(Node::Both(a, b)),
+            (10, _, _) => Ok(Node::When(a, b)),
+            _ => Err(NoNode),
         }
     }
+}
 
+impl Node {
     /// Whether the node is a formula; every other is an effect.
     pub fn is_formula(self) -> bool
         ensures { result ≡ formula_node self }
     {
-        match self {
+        matches!(
+            self,
             Node::False
-            | Node::True
-            | Node::Variable(_)
-            | Node::Not(_)
-            | Node::And(_, _)
-            | Node::Or(_, _) => true,
-            Node::Empty | Node::Set(_) | Node::Clear(_) | Node::Both(_, _) | Node::When(_, _) => {
-                false
-            }
-        }
+                | Node::True
+                | Node::Variable(_)
+                | Node::Not(_)
+                | Node::And(_, _)
+                | Node::Or(_, _)
+        )
     }
 }

@@ -8,16 +8,18 @@ use crate::node::Node;
 pub fn is_formula(nodes: &[Node], number: u16) -> bool
     ensures { result ≡ is_formula nodes.now number }
 {
-    let number = number as usize;
-    number < nodes.len() && nodes[number].is_formula()
+    nodes
+        .get(usize::from(number))
+        .is_some_and(|node| node.is_formula())
 }
 
 /// Whether there is a node of this number, and it is an effect.
 pub fn is_effect(nodes: &[Node], number: u16) -> bool
     ensures { result ≡ is_effect nodes.now number }
 {
-    let number = number as usize;
-    number < nodes.len() && !nodes[number].is_formula()
+    nodes
+        .get(usize::from(number))
+        .is_some_and(|node| !node.is_formula())
 }
 
 /// Whether the node may follow these nodes, over variables below `n`.

@@ -26,6 +26,7 @@ pub trait NodeTable {
         ensures { result ≡ slice_index_or (nodes self.now) at NoNode };
 }
 
+// Kept: table, number and cube as parameters, since each step changes the number alone and a struct of them would be made anew.
 /// The truth of the formula at the node `at` in the cube; the node's number falls.
 fn evaluate<N: NodeTable>(nodes: &N, at: usize, cube: &Cube) -> Truth
     ensures { result ≡ kleene (truth (partial cube.now)) (formula_at (N.NodeTable.nodes nodes.now) at) }

@@ -4,14 +4,14 @@ use lib.Bits.{bit_and}
 use Rattle.std.specs.List.{AllByRecursion, slice_get}
 use Rattle.std.proofs.lemmas.Bool.{both_ways, cases_Bool, or_left, or_right}
 use Rattle.logic.specs.Contained.{truth_single}
-use Rattle.logic.specs.Kleene.{given, refuted}
+use Rattle.logic.specs.Kleene.{given, refuted, sure}
 use Rattle.logic.specs.Partial.{PartialState, Fine, truth, single}
 use Rattle.formulas.specs.Formula.{Formula, kleene, holds}
 use Rattle.formulas.specs.Results.{state, result, successor}
 use Rattle.formulas.specs.Within.{Within, kleene_total}
 use Rattle.formulas.proofs.After.{successor_single}
-use Rattle.sets.specs.declared.answer.Answer.{Answer}
-use Rattle.sets.specs.declared.answer.Answer.TheVariants.{Inside, Outside, Open}
+use Rattle.logic.specs.declared.truth.Truth.{Truth}
+use Rattle.logic.specs.declared.truth.Truth.TheVariants.{True as Inside, False as Outside, Open}
 use Rattle.sets.specs.Sets.{Claims, Laws}
 use Rattle.planning.specs.Model.{Action, Model, ActionWithin, WellFormed}
 use Rattle.planning.specs.Leads.{Steps, Unsolvable}
@@ -19,7 +19,7 @@ use Rattle.planning.proofs.Reached.{leads_more}
 use Rattle.planning.proofs.Resulting.{results_from}
 use Rattle.judge.specs.Complete.{HasReachable, TellsEmpty}
 use Rattle.judge.specs.Plain.{Finds, plain_body}
-use Rattle.judge.specs.Rules.{is_inside, is_outside, stays, settles}
+use Rattle.judge.specs.Rules.{stays, settles}
 use Rattle.judge.specs.Verdict.{tree_count, body_judged}
 use Rattle.judge.proofs.Judged.{body_accepted}
 use Rattle.judge.proofs.Plainly.{Settles, plain_proves}
@@ -39,7 +39,7 @@ all_nth P (y ∷ xs) (suc i) x all e = all_nth P xs i x all.1 e
 refuted_not : (b : Bool) → b ≡ false → refuted (given b) ≡ true
 refuted_not b e = ap (λ x. refuted (given x)) e
 
-module _ (m : Model) (wf : WellFormed m) (has : ℕ → Bool) (ask : PartialState → Answer) (laws : Laws m.variables has ask) where
+module _ (m : Model) (wf : WellFormed m) (has : ℕ → Bool) (ask : PartialState → Truth) (laws : Laws m.variables has ask) where
   -- the cube of a state of the set is answered inside
   total_inside : (s : ℕ) → has s ≡ true → ask (single m.variables s) ≡ Inside
   total_inside s h = go (ask (single m.variables s)) refl
@@ -47,7 +47,7 @@ module _ (m : Model) (wf : WellFormed m) (has : ℕ → Bool) (ask : PartialStat
       below : s < 2 ^ m.variables
       below = laws.within s h
 
-      go : (a : Answer) → ask (single m.variables s) ≡ a → ask (single m.variables s) ≡ Inside
+      go : (a : Truth) → ask (single m.variables s) ≡ a → ask (single m.variables s) ≡ Inside
       go Inside e = e
       go Outside e =
           let claim : Claims Outside has (single m.variables s) = subst (λ a. Claims a has (single m.variables s)) e (laws.holds (single m.variables s) (fine_single _ _ below) refl) in
@@ -62,7 +62,7 @@ module _ (m : Model) (wf : WellFormed m) (has : ℕ → Bool) (ask : PartialStat
 
   module _ (none : Unsolvable m) (reach : HasReachable m has) (empty : TellsEmpty m.variables has ask) where
     apart : (i : ℕ) (c : PartialState) → Fine c → c.width ≡ m.variables → ((s : ℕ) → has s ≡ true → bit_and s c.known ≡ c.value → ⊥) → settles ask m i c ≡ true
-    apart i c fine w clear = or_left _ _ (ap is_outside (empty c fine w (λ s at h. clear s h at.agrees)))
+    apart i c fine w clear = or_left _ _ (ap refuted (empty c fine w (λ s at h. clear s h at.agrees)))
 
     goal_settles : Settles m.variables has (settles ask m 0)
     goal_settles = record {
@@ -83,9 +83,9 @@ module _ (m : Model) (wf : WellFormed m) (has : ℕ → Bool) (ask : PartialStat
         let w = all_nth (ActionWithin m.variables) m.operators i a wf.operators is in
         let c = single m.variables s in
         ⊎_elim
-        (λ fit. or_right (refuted (kleene (truth c) a.precondition)) (is_inside (ask (successor a.effect c)))
-        (ap (λ k. is_inside (ask k)) (successor_single a.effect m.variables s w.effect) ∙ ap is_inside (total_inside _ (next s i a is h fit))))
-        (λ unfit. or_left (refuted (kleene (truth c) a.precondition)) (is_inside (ask (successor a.effect c))) (false_there s a.precondition w.precondition unfit))
+        (λ fit. or_right (refuted (kleene (truth c) a.precondition)) (sure (ask (successor a.effect c)))
+        (ap (λ k. sure (ask k)) (successor_single a.effect m.variables s w.effect) ∙ ap sure (total_inside _ (next s i a is h fit))))
+        (λ unfit. or_left (refuted (kleene (truth c) a.precondition)) (sure (ask (successor a.effect c))) (false_there s a.precondition w.precondition unfit))
         (cases_Bool (holds (state s) a.precondition))
 
     operator_settles : (i : ℕ) → i < length m.operators → Settles m.variables has (settles ask m (suc i))

@@ -1,49 +1,46 @@
 -- From the answers of the parts to the verdict, and what is accepted.
 use Rattle.std.proofs.Common.{◌≡◌, ℕ, ◌<◌, ◌≤◌, Bool, true, false, cond, ◌↔◌, List, get_or, Ok, Err, Result, sym, refl, ap, ◌∙◌, arith}
-use Rattle.std.proofs.lemmas.Bool.{cond-true, cond-false}
+use Rattle.std.proofs.lemmas.Bool.{cond-true}
 use Rattle.records.specs.declared.PaperKind.TheVariants.{Proof}
 use Rattle.records.specs.declared.RecordFault.{RecordFault}
 use Rattle.records.specs.Papers.{Holds}
 use Rattle.records.specs.Single.{and_then, single_in}
 use Rattle.records.specs.Walks.{map_err}
 use Rattle.records.proofs.Written.{single_holds, holds_single}
+use Rattle.logic.specs.Allowed.{sure_is}
+use Rattle.logic.specs.Kleene.{sure}
 use Rattle.logic.specs.Partial.{PartialState, whole}
 use Rattle.logic.proofs.Halves.{fine_whole}
-use Rattle.sets.specs.declared.answer.Answer.{Answer}
-use Rattle.sets.specs.declared.answer.Answer.TheVariants.{Inside}
+use Rattle.logic.specs.declared.truth.Truth.{Truth}
+use Rattle.logic.specs.declared.truth.Truth.TheVariants.{True as Inside}
 use Rattle.trees.specs.declared.fault.TreeFault.{TreeFault}
 use Rattle.trees.specs.Check.{body_verdict}
 use Rattle.trees.specs.Tree.{Proves}
 use Rattle.trees.proofs.Exactly.{exact_body}
 use Rattle.planning.specs.Model.{Model}
 use Rattle.judge.specs.declared.fault.ProofFault.{ProofFault}
-use Rattle.judge.specs.declared.fault.ProofFault.TheVariants.{Record, StartNotInside}
-use Rattle.judge.specs.Faults.{of_tree}
-use Rattle.judge.specs.Rules.{is_inside, settles}
+use Rattle.judge.specs.declared.fault.ProofFault.TheVariants.{Record, StartNotInside, Tree}
+use Rattle.judge.specs.Rules.{settles}
 use Rattle.judge.specs.Verdict.{start_answer, tree_count, body_judged, proof_verdict, Accepted}
-use Rattle.judge.proofs.Soundly.{inside_is}
 
 -- ---- step by step
 
-module _ (m : Model) (ask : PartialState → Answer) (paper body : List ℕ) (q : Result (List ℕ) RecordFault) (read : q ≡ single_in Proof paper) (is : q ≡ Ok body) where
+module _ (m : Model) (ask : PartialState → Truth) (paper body : List ℕ) (q : Result (List ℕ) RecordFault) (read : q ≡ single_in Proof paper) (is : q ≡ Ok body) where
   on : proof_verdict m ask paper ≡ body_judged m ask body
   on = ap (λ r. and_then (map_err Record r) (body_judged m ask)) (sym read ∙ is)
 
-  module _ (a : Bool) (said : a ≡ is_inside (start_answer m ask)) where
-    pub start_refused : a ≡ false → Err StartNotInside ≡ proof_verdict m ask paper
-    start_refused e = sym (on ∙ cond-false _ _ _ (sym said ∙ e))
-
+  module _ (a : Bool) (said : a ≡ sure (start_answer m ask)) where
     module _ (inside : a ≡ true) (space : PartialState) (all : space ≡ whole m.variables) (count : ℕ) (number : count ≡ tree_count m) (t : Result (Unit {0}) TreeFault) (told : t ≡ body_verdict (settles ask m) body space count) where
-      trees_on : proof_verdict m ask paper ≡ map_err of_tree t
+      trees_on : proof_verdict m ask paper ≡ map_err Tree t
       trees_on =
           on ∙ cond-true _ _ _ (sym said ∙ inside)
-          ∙ ap (map_err of_tree) (sym (told ∙ ap (λ c. body_verdict (settles ask m) body c count) all ∙ ap (body_verdict (settles ask m) body (whole m.variables)) number))
+          ∙ ap (map_err Tree) (sym (told ∙ ap (λ c. body_verdict (settles ask m) body c count) all ∙ ap (body_verdict (settles ask m) body (whole m.variables)) number))
 
-      pub trees_refused : (e : TreeFault) (x : ProofFault) (r : Result (Unit {0}) ProofFault) → t ≡ Err e → r ≡ Err x → x ≡ of_tree e → r ≡ proof_verdict m ask paper
-      trees_refused e x r was is' same = is' ∙ ap Err same ∙ sym (trees_on ∙ ap (map_err of_tree) was)
+      pub trees_refused : (e : TreeFault) (x : ProofFault) (r : Result (Unit {0}) ProofFault) → t ≡ Err e → r ≡ Err x → x ≡ Tree e → r ≡ proof_verdict m ask paper
+      trees_refused e x r was is' same = is' ∙ ap Err same ∙ sym (trees_on ∙ ap (map_err Tree) was)
 
       pub trees_passed : t ≡ Ok tt → Ok tt ≡ proof_verdict m ask paper
-      trees_passed was = sym (trees_on ∙ ap (map_err of_tree) was)
+      trees_passed was = sym (trees_on ∙ ap (map_err Tree) was)
 
 -- ---- accepted
 
@@ -58,16 +55,16 @@ started : (b : Bool) (r : Result (Unit {0}) ProofFault) → cond b r (Err StartN
 started true r e = (refl, e)
 started false r e = never StartNotInside tt e
 
-unmapped : (t : Result (Unit {0}) TreeFault) → map_err of_tree t ≡ Ok tt → t ≡ Ok tt
+unmapped : (t : Result (Unit {0}) TreeFault) → map_err Tree t ≡ Ok tt → t ≡ Ok tt
 unmapped (Ok x) e = refl
-unmapped (Err u) e = never (of_tree u) tt e
+unmapped (Err u) e = never (Tree u) tt e
 
-module _ (m : Model) (ask : PartialState → Answer) (narrow : m.variables ≤ 255) where
+module _ (m : Model) (ask : PartialState → Truth) (narrow : m.variables ≤ 255) where
   -- a body that is lawful trees, with the start inside
   pub body_accepted : (body : List ℕ) → start_answer m ask ≡ Inside → Proves (settles ask m) body (whole m.variables) (tree_count m) → body_judged m ask body ≡ Ok tt
   body_accepted body start trees =
-      cond-true _ _ _ (ap is_inside start)
-      ∙ ap (map_err of_tree) ((exact_body (settles ask m) body (whole m.variables) (fine_whole m.variables) narrow (tree_count m)).1 trees)
+      cond-true _ _ _ (ap sure start)
+      ∙ ap (map_err Tree) ((exact_body (settles ask m) body (whole m.variables) (fine_whole m.variables) narrow (tree_count m)).1 trees)
 
   module _ (paper : List ℕ) (r : Result (Unit {0}) ProofFault) (is : r ≡ proof_verdict m ask paper) where
     pub paper_accepted : (body : List ℕ) → Holds Proof body paper → body_judged m ask body ≡ Ok tt → r ≡ Ok tt
@@ -77,11 +74,11 @@ module _ (m : Model) (ask : PartialState → Answer) (narrow : m.variables ≤ 2
     accepted_exactly bytes = (
       λ e.
           let p = read_ok (single_in Proof paper) (body_judged m ask) (sym is ∙ e) in
-          let s = started (is_inside (start_answer m ask)) _ p.2 in
+          let s = started (sure (start_answer m ask)) _ p.2 in
           record {
             body = p.0;
             written = single_holds Proof paper bytes p.0 p.1;
-            start = inside_is (start_answer m ask) s.0;
+            start = sure_is (start_answer m ask) s.0;
             trees = (exact_body (settles ask m) p.0 (whole m.variables) (fine_whole m.variables) narrow (tree_count m)).0 (unmapped _ s.1);
           },
       λ a. paper_accepted a.body a.written (body_accepted a.body a.start a.trees),

@@ -1,4 +1,3 @@
-pub mod Looked
 pub mod Soundly
 pub mod Judged
 pub mod Plainly

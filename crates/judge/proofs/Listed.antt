@@ -3,8 +3,8 @@ use Rattle.std.proofs.Common.{◌≡◌, ℕ, zero, suc, ◌+◌, ◌^◌, ◌<�
 use Rattle.std.proofs.lemmas.Bool.{both_ways, cases_Bool, cond-true, eqb-true, eq-eqb, ltb-true, ltb-false, or_left, or_right}
 use Rattle.logic.specs.Partial.{PartialState, holds_state, free_count}
 use Rattle.logic.specs.Words.{digit}
-use Rattle.sets.specs.declared.answer.Answer.{Answer}
-use Rattle.sets.specs.declared.answer.Answer.TheVariants.{Outside}
+use Rattle.logic.specs.declared.truth.Truth.{Truth}
+use Rattle.logic.specs.declared.truth.Truth.TheVariants.{False as Outside}
 use Rattle.sets.specs.Sets.{Laws, Claims}
 use Rattle.setpapers.specs.Count.{tally, listed, rising}
 use Rattle.setpapers.specs.Counted.{tally_none, listed_within}
@@ -52,7 +52,7 @@ list_finds bs = record {
 pub list_plain : ListPlain
 list_plain bs = plain_is_plain (list_has bs) (holds_listed bs) (list_finds bs)
 
-module _ (w : ℕ) (bs : List ℕ) (r : rising w (state_at bs) (states bs) ≡ true) (ask : PartialState → Answer) (same : (c : PartialState) → ask c ≡ list_answer w bs c) where
+module _ (w : ℕ) (bs : List ℕ) (r : rising w (state_at bs) (states bs) ≡ true) (ask : PartialState → Truth) (same : (c : PartialState) → ask c ≡ list_answer w bs c) where
   -- a set that answers as the list does keeps the list's laws
   laws_same : Laws w (list_has bs) ask
   laws_same =
@@ -75,6 +75,6 @@ module _ (w : ℕ) (bs : List ℕ) (r : rising w (state_at bs) (states bs) ≡ t
           (λ h. h)
           (cases_Bool (holds_state c x))
 
-pub list_accepted : (m : Model) → WellFormed m → m.variables ≤ 255 → Unsolvable m → (bs : List ℕ) → rising m.variables (state_at bs) (states bs) ≡ true → HasReachable m (list_has bs) → (ask : PartialState → Answer) → ((c : PartialState) → ask c ≡ list_answer m.variables bs c) → body_judged m ask (plain_of m bs) ≡ Ok tt
+pub list_accepted : (m : Model) → WellFormed m → m.variables ≤ 255 → Unsolvable m → (bs : List ℕ) → rising m.variables (state_at bs) (states bs) ≡ true → HasReachable m (list_has bs) → (ask : PartialState → Truth) → ((c : PartialState) → ask c ≡ list_answer m.variables bs c) → body_judged m ask (plain_of m bs) ≡ Ok tt
 list_accepted m wf narrow none bs r reach ask same =
     plain_accepted m wf (list_has bs) ask (laws_same m.variables bs r ask same) none reach (tells_empty m.variables bs r ask same) narrow (holds_listed bs) (list_finds bs)

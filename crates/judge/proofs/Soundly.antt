@@ -1,48 +1,32 @@
 -- The set of an accepted proof holds each reachable state, and none of them is a goal state.
-use Rattle.std.proofs.Common.{◌≡◌, ℕ, zero, suc, ◌^◌, ◌<◌, Bool, true, false, List, [], ◌∷◌, length, Some, sym, refl, ap, ◌∙◌, subst, ⊎_elim, mod-eq_of_lt, arith, pow_pos}
+use Rattle.std.proofs.Common.{◌≡◌, ℕ, zero, suc, ◌^◌, ◌<◌, Bool, true, false, List, [], ◌∷◌, length, Some, sym, ap, ◌∙◌, subst, ⊎_elim, mod-eq_of_lt, arith, pow_pos}
 use lib.Bits.{and_mask, and_zero_r}
 use Rattle.std.specs.List.{slice_get}
 use Rattle.std.proofs.lemmas.Bool.{both_ways, or_cases, cases_eq}
 use Rattle.logic.specs.declared.truth.Truth.{Truth}
-use Rattle.logic.specs.declared.truth.Truth.TheVariants.{True, False, Open as Unknown}
+use Rattle.logic.specs.Allowed.{sure_is, refuted_is}
 use Rattle.logic.specs.Contained.{has_from, from_fine}
-use Rattle.logic.specs.Kleene.{refuted}
+use Rattle.logic.specs.Kleene.{refuted, sure}
 use Rattle.logic.specs.Partial.{PartialState, Fine, In, truth, whole, single}
 use Rattle.logic.specs.States.{Allows}
 use Rattle.formulas.specs.Formula.{Formula, kleene, holds, after}
 use Rattle.formulas.specs.Results.{state, result, successor}
 use Rattle.formulas.specs.Sound.{kleene_sound}
 use Rattle.formulas.proofs.After.{successor_has}
-use Rattle.sets.specs.declared.answer.Answer.{Answer}
-use Rattle.sets.specs.declared.answer.Answer.TheVariants.{Inside, Outside, Open}
+use Rattle.logic.specs.declared.truth.Truth.TheVariants.{True as Inside, False as Outside}
 use Rattle.sets.specs.Sets.{Claims, Laws}
 use Rattle.trees.specs.Covers.{EachCovers}
 use Rattle.planning.specs.Model.{Model, WellFormed}
 use Rattle.planning.specs.Leads.{Steps, Reachable}
 use Rattle.planning.proofs.Reached.{stays as stays_in}
 use Rattle.planning.proofs.Resulting.{results_is}
-use Rattle.judge.specs.Rules.{is_inside, is_outside, stays, settles}
+use Rattle.judge.specs.Rules.{stays, settles}
 use Rattle.judge.specs.Shown.{Shows}
 use Rattle.judge.specs.Verdict.{start_answer, tree_count}
 
-outside_is : (a : Answer) → is_outside a ≡ true → a ≡ Outside
-outside_is Inside e = absurd (both_ways false refl e)
-outside_is Outside e = refl
-outside_is Open e = absurd (both_ways false refl e)
-
-pub inside_is : (a : Answer) → is_inside a ≡ true → a ≡ Inside
-inside_is Inside e = refl
-inside_is Outside e = absurd (both_ways false refl e)
-inside_is Open e = absurd (both_ways false refl e)
-
 -- a formula that is false in a cube is false in each of its states
-false_in : (t : Truth) (b : Bool) → refuted t ≡ true → Allows t b → b ≡ false
-false_in True b e a = absurd (both_ways false refl e)
-false_in False b e a = a
-false_in Unknown b e a = absurd (both_ways false refl e)
-
 formula_false : (c : PartialState) (s : ℕ) → In c s → (φ : Formula) → refuted (kleene (truth c) φ) ≡ true → holds (state s) φ ≡ false
-formula_false c s i φ e = false_in _ _ e (kleene_sound (truth c) (state s) (has_from c s i.agrees) φ)
+formula_false c s i φ e = subst (λ t. Allows t (holds (state s) φ)) (refuted_is _ e) (kleene_sound (truth c) (state s) (has_from c s i.agrees) φ)
 
 -- the cube of a state
 pub fine_single : (w s : ℕ) → s < 2 ^ w → Fine (single w s)
@@ -60,9 +44,9 @@ found_below [] i x e = let z : ◌≡◌ {A = ℕ} 0 1 = cc in absurd (omega ari
 found_below (y ∷ xs) zero x e = omega arith
 found_below (y ∷ xs) (suc i) x e = omega (arith, found_below xs i x e)
 
-module _ (wide : ℕ) (has : ℕ → Bool) (ask : PartialState → Answer) (laws : Laws wide has ask) where
+module _ (wide : ℕ) (has : ℕ → Bool) (ask : PartialState → Truth) (laws : Laws wide has ask) where
   -- what an answer claims
-  claims : (c : PartialState) → Fine c → c.width ≡ wide → (a : Answer) → ask c ≡ a → Claims a has c
+  claims : (c : PartialState) → Fine c → c.width ≡ wide → (a : Truth) → ask c ≡ a → Claims a has c
   claims c fine w a e = subst (λ x. Claims x has c) e (laws.holds c fine w)
 
   -- a cube that is answered inside has the set's width
@@ -72,8 +56,8 @@ module _ (wide : ℕ) (has : ℕ → Bool) (ask : PartialState → Answer) (laws
       differ : Outside ≡ Inside → ⊥
       differ d = let z : ◌≡◌ {A = ℕ} 0 1 = cc in omega arith
 
-  not_outside : (c : PartialState) → Fine c → c.width ≡ wide → (s : ℕ) → In c s → has s ≡ true → is_outside (ask c) ≡ true → ⊥
-  not_outside c fine w s i h e = both_ways (has s) (claims c fine w Outside (outside_is (ask c) e) s i) h
+  not_outside : (c : PartialState) → Fine c → c.width ≡ wide → (s : ℕ) → In c s → has s ≡ true → refuted (ask c) ≡ true → ⊥
+  not_outside c fine w s i h e = both_ways (has s) (claims c fine w Outside (refuted_is (ask c) e) s i) h
 
   module _ (m : Model) (wf : WellFormed m) (start : start_answer m ask ≡ Inside) (cover : EachCovers (settles ask m) (whole m.variables) (tree_count m)) where
     width_is : m.variables ≡ wide
@@ -104,8 +88,8 @@ module _ (wide : ℕ) (has : ℕ → Bool) (ask : PartialState → Answer) (laws
         (λ kept. ⊎_elim
         (λ no. absurd (both_ways _ (formula_false c.cube s c.state a.precondition no) step.applies))
         (λ into. subst (λ x. has x ≡ true) is
-        (claims next (from_fine c.cube.width (λ v. kleene (truth c.cube) (after v a.effect))) (c.wide ∙ width_is) Inside (inside_is (ask next) into) _ (successor_has a.effect c.cube s c.state)))
-        (or_cases (refuted (kleene (truth c.cube) a.precondition)) (is_inside (ask next)) (subst (λ x. stays ask x c.cube ≡ true) step.is kept)))
+        (claims next (from_fine c.cube.width (λ v. kleene (truth c.cube) (after v a.effect))) (c.wide ∙ width_is) Inside (sure_is (ask next) into) _ (successor_has a.effect c.cube s c.state)))
+        (or_cases (refuted (kleene (truth c.cube) a.precondition)) (sure (ask next)) (subst (λ x. stays ask x c.cube ≡ true) step.is kept)))
         (or_cases _ _ c.good)
 
     pub proof_shows : Shows m has

@@ -3,7 +3,7 @@ use Rattle.std.specs.Prelude.{◌≡◌, ℕ, Bool, true, List, nat_lt}
 use Rattle.records.specs.declared.PaperKind.TheVariants.{Proof}
 use Rattle.records.specs.Papers.{Holds}
 use Rattle.logic.specs.Partial.{PartialState, holds_state}
-use Rattle.sets.specs.declared.answer.Answer.{Answer}
+use Rattle.logic.specs.declared.truth.Truth.{Truth}
 use Rattle.setpapers.specs.Count.{tally, rising}
 use Rattle.setpapers.specs.Lists.{states, state_at, list_has, list_answer}
 use Rattle.planning.specs.Model.{Model}
@@ -22,7 +22,7 @@ plain_of m bs = plain_body (holds_listed bs) m.variables (tree_count m)
 
 -- where no sequence of operators leads to the goal, and the bytes list just the reachable states in rising order,
 -- a set that answers as this list does is accepted with the paper of its plain proof
-abbrev pub ListComplete : Model → (PartialState → Answer) → List ℕ → Type 0 → Type 0
+abbrev pub ListComplete : Model → (PartialState → Truth) → List ℕ → Type 0 → Type 0
 ListComplete m ask paper accepted =
     Unsolvable m → (bs : List ℕ) → rising m.variables (state_at bs) (states bs) ≡ true → HasReachable m (list_has bs)
     → ((c : PartialState) → ask c ≡ list_answer m.variables bs c) → Holds Proof (plain_of m bs) paper → accepted

@@ -1,36 +1,27 @@
 //! Judging proofs.
 ghost use Rattle.std.specs.Prelude.{◌≡◌, ◌↔◌, Ok, Err};
 ghost use Rattle.task.specs.Held.{model};
-ghost use Rattle.judge.specs.Rules.{is_inside};
-ghost use Rattle.judge.specs.Verdict.{start_answer, proof_verdict, Accepted};
+ghost use Rattle.judge.specs.Verdict.{proof_verdict, Accepted};
 ghost use Rattle.judge.specs.Lists.{ListComplete, ListPlain};
 ghost use Rattle.judge.specs.Shown.{Shows};
 ghost use Rattle.judge.specs.Complete.{Complete};
 
 use crate::fault::ProofFault;
-use crate::leaves::{Leaves, is_inside};
+use crate::leaves::Leaves;
 use records::{PaperKind, single};
 use sets::set::StateSet;
 use task::place::Task;
 use trees::check::check_body;
-
-/// Whether the set answers inside to the start.
-fn holds_start<S: StateSet>(task: &Task, set: &S) -> bool
-    ensures { result ≡ is_inside (start_answer (model task.now) (S.StateSet.answer set.now)) }
-{
-    let start = task.states().at(task.start());
-    is_inside(set.ask(&start))
-}
 
 /// What a proof's paper earns.
 fn proof_verdict<S: StateSet>(task: &Task, set: &S, paper: &[u8]) -> Result<(), ProofFault>
     ensures { result ≡ proof_verdict (model task.now) (S.StateSet.answer set.now) paper.now }
 {
     let body = single(paper, PaperKind::Proof)?;
-    if !holds_start(task, set) {
+    let leaves = Leaves { set, task };
+    if !leaves.holds_start() {
         return Err(ProofFault::StartNotInside);
     }
-    let leaves = Leaves { set, task };
     check_body(body, task.states(), &leaves, task.operator_count() + 1)?;
     Ok(())
 }

@@ -6,8 +6,8 @@ use Rattle.logic.specs.declared.truth.Truth.{Truth}
 use Rattle.logic.specs.declared.truth.Truth.TheVariants.{True, False, Open}
 use Rattle.logic.specs.Bit.{bit}
 use Rattle.logic.specs.Kleene.{not3, and3, or3, given, sure, maybe}
-use Rattle.logic.specs.Partial.{seen}
-use Rattle.logic.specs.BitLaws.{bit-bit_and, bit-bit_or, bit_not, bit_ones, and_part, part_known}
+use Rattle.logic.specs.Partial.{Fine, cube_of, seen}
+use Rattle.logic.specs.BitLaws.{and_true, bit-bit_and, bit-bit_or, bit_not, bit_ones, and_part, part_known}
 
 -- the value and the known bits of one variable, where S and C are the truths of its being set and cleared
 abbrev val : Truth → Truth → Bool → Bool
@@ -50,18 +50,17 @@ abbrev pub new_known : (full known value sm sy cm cy : ℕ) → ℕ
 new_known full known value sm sy cm cy =
     bit_and (bit_or (new_value full value sm cy) (bit_and ((2 ^ 64 - 1) - sy) (bit_or (bit_and known ((2 ^ 64 - 1) - value)) cm))) full
 
-and_true : (b : Bool) → (b && true) ≡ b
-and_true true = refl
-and_true false = refl
-
 module _ (w full known value sm sy cm cy : ℕ) (narrow : w ≤ 64) (is : full ≡ 2 ^ w - 1) where
-  pub new_within : new_known full known value sm sy cm cy < 2 ^ w
+  new_within : new_known full known value sm sy cm cy < 2 ^ w
   new_within = let p = pow_pos w in let l = and_le_r (bit_or (new_value full value sm cy) (bit_and ((2 ^ 64 - 1) - sy) (bit_or (bit_and known ((2 ^ 64 - 1) - value)) cm))) full in omega arith
 
-  pub new_part : bit_and (new_value full value sm cy) (new_known full known value sm sy cm cy) ≡ new_value full value sm cy
+  new_part : bit_and (new_value full value sm cy) (new_known full known value sm sy cm cy) ≡ new_value full value sm cy
   new_part = let p = pow_pos w in let l : new_value full value sm cy < 2 ^ w = lt_of_le_of_lt (and_le_r _ full) (omega arith) in
       and_part w (new_value full value sm cy) _ l
       (λ v k e. bit-bit_and v _ full ∙ ap₂ (λ x y. x && y) (bit-bit_or v (new_value full value sm cy) _ ∙ or_left _ _ e) (ap (bit v) is ∙ bit_ones w v k))
+
+  pub new_fine : Fine (cube_of w (new_known full known value sm sy cm cy) (new_value full value sm cy))
+  new_fine = record { inside = new_within; part = new_part }
 
   module _ (v : ℕ) (S C : Truth) (below : v < w) (part : bit_and value known ≡ value) (fv : value < 2 ^ 64) (fs : sy < 2 ^ 64) (fc : cy < 2 ^ 64)
       (esm : bit v sm ≡ sure S) (esy : bit v sy ≡ maybe S) (ecm : bit v cm ≡ sure C) (ecy : bit v cy ≡ maybe C) where

@@ -8,6 +8,10 @@ use Rattle.std.proofs.Math.Dec.{eqb-zero-suc, eqb-suc-zero, eqb-suc-suc}
 use Rattle.std.proofs.lemmas.Bool.{false≢true}
 use Rattle.logic.specs.Bit.{bit}
 
+pub and_true : (b : Bool) → (b && true) ≡ b
+and_true true = refl
+and_true false = refl
+
 -- ---- the digits, lowest first
 
 pub bit_low : (n : ℕ) → bit 0 n ≡ (n % 2 == 1)

@@ -10,7 +10,7 @@ use Rattle.logic.specs.Bit.{bit}
 use Rattle.logic.specs.Kleene.{given, sure, settled}
 use Rattle.logic.specs.Partial.{PartialState, Fine, cube_of, truth, single, cube_from, Holds}
 use Rattle.logic.specs.States.{Allows, Has, Settled}
-use Rattle.logic.specs.BitLaws.{bit-bit_and, bit_ones, bit_high, bit_ext, and_part, part_known}
+use Rattle.logic.specs.BitLaws.{and_true, bit-bit_and, bit_ones, bit_high, bit_ext, and_part, part_known}
 use Rattle.logic.specs.Words.{word, word_below, word_is, bit_word}
 
 one_from : (K V S : Bool) → V ≡ (S && K) → Allows (cond K (given V) Open) S
@@ -51,13 +51,10 @@ truth_single w s v h = ap (λ b. cond b (given (bit v s)) Open) (bit_ones w v h)
 
 -- only the digits below the width count
 pub truth_lowest : (w s v : ℕ) → v < w → truth (single w (s % 2 ^ w)) v ≡ given (bit v s)
-truth_lowest w s v h = truth_single w (s % 2 ^ w) v h ∙ ap given (ap (bit v) (sym (and_mask s w)) ∙ bit-bit_and v s (2 ^ w - 1) ∙ ap (λ b. bit v s && b) (bit_ones w v h) ∙ and_one (bit v s))
-  where
-    and_one : (b : Bool) → (b && true) ≡ b
-    and_one true = refl
-    and_one false = refl
+truth_lowest w s v h = truth_single w (s % 2 ^ w) v h ∙ ap given (ap (bit v) (sym (and_mask s w)) ∙ bit-bit_and v s (2 ^ w - 1) ∙ ap (λ b. bit v s && b) (bit_ones w v h) ∙ and_true (bit v s))
 
-given_known : (b : Bool) → given b ≢ Open
+-- what has a value is not open
+pub given_known : (b : Bool) → given b ≢ Open
 given_known true e = let z : ◌≡◌ {A = ℕ} 0 1 = cc in omega arith
 given_known false e = let z : ◌≡◌ {A = ℕ} 0 1 = cc in omega arith
 

@@ -7,3 +7,4 @@ pub mod Views
 pub mod Masks
 pub mod States
 pub mod Contained
+pub mod Allowed

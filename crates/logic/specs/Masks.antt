@@ -2,6 +2,7 @@
 use Rattle.std.specs.Prelude.{◌≡◌, ℕ, ◌<◌}
 use Rattle.logic.specs.declared.truth.Truth.{Truth}
 use Rattle.logic.specs.declared.change.Mask.{Mask}
+use Rattle.logic.specs.declared.change.Change.{Change}
 use Rattle.logic.specs.Bit.{bit}
 use Rattle.logic.specs.Kleene.{sure, maybe}
 
@@ -9,3 +10,8 @@ use Rattle.logic.specs.Kleene.{sure, maybe}
 pub record Stands (m : Mask) (s : ℕ → Truth) : Type 0 where
   pub must : (v : ℕ) → v < 64 → bit v m.must ≡ sure (s v)
   pub may : (v : ℕ) → v < 64 → bit v m.may ≡ maybe (s v)
+
+-- of each variable the change has the truth of its being set that s says, and the truth of its being cleared that k says
+pub record Alters (c : Change) (s k : ℕ → Truth) : Type 0 where
+  pub set : Stands c.set s
+  pub clear : Stands c.clear k

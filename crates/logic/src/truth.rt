@@ -1,13 +1,24 @@
 //! The three truth values of Kleene's strong logic.
 ghost use Rattle.std.specs.Prelude.{◌≡◌};
-ghost use Rattle.logic.specs.Kleene.{not3, and3, or3, sure};
+ghost use Rattle.logic.specs.Kleene.{not3, and3, or3, given, sure, refuted};
 
-/// A formula's truth in a cube: it holds in none of the states, in some perhaps, or in all.
-#[derive(Clone, Copy, PartialEq, Eq, Debug)]
+/// A formula's truth in a cube: it holds in none of the states, in some perhaps, or in all. And what a set answers to a
+/// cube: none of its states is in the set, the set does not say, or all are. The falser is the less.
+// Kept: no `Option<bool>`, whose order has the open below both others, so that and, or would not be the lesser, the greater.
+#[derive(Clone, Copy, PartialEq, Eq, PartialOrd, Ord, Debug)]
 pub enum Truth {
     False,
     Open,
     True,
+}
+
+/// The truth of what has a value.
+impl From<bool> for Truth {
+    ghost from_gives = { λ value truth. truth ≡ given value };
+
+    fn from(value: bool) -> Truth {
+        if value { Truth::True } else { Truth::False }
+    }
 }
 
 impl Truth {
@@ -15,38 +26,28 @@ impl Truth {
     pub fn is_true(self) -> bool
         ensures { result ≡ sure self }
     {
-        match self {
-            Truth::True => true,
-            Truth::False | Truth::Open => false,
-        }
+        self == Truth::True
     }
 
-    /// Kleene's and.
+    /// Whether it is false for certain.
+    pub fn is_false(self) -> bool
+        ensures { result ≡ refuted self }
+    {
+        self == Truth::False
+    }
+
+    /// Kleene's and: the falser of the two.
     pub fn and(self, other: Truth) -> Truth
         ensures { result ≡ and3 self other }
     {
-        match self {
-            Truth::False => Truth::False,
-            Truth::True => other,
-            Truth::Open => match other {
-                Truth::False => Truth::False,
-                _ => Truth::Open,
-            },
-        }
+        self.min(other)
     }
 
-    /// Kleene's or.
+    /// Kleene's or: the truer of the two.
     pub fn or(self, other: Truth) -> Truth
         ensures { result ≡ or3 self other }
     {
-        match self {
-            Truth::True => Truth::True,
-            Truth::False => other,
-            Truth::Open => match other {
-                Truth::True => Truth::True,
-                _ => Truth::Open,
-            },
-        }
+        self.max(other)
     }
 
     /// Kleene's not.

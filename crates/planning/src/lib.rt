@@ -4,8 +4,6 @@
 ghost use Rattle.planning.specs.Leads.{ReachableLeast};
 
 /// That the reachable states are the least that hold the start and every state that an operator leads to from one of them.
-pub fn reachable_states_are_least() -> u8
+pub fn reachable_states_are_least()
     ensures { ReachableLeast }
-{
-    0
-}
+{}

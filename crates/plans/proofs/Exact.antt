@@ -1,5 +1,5 @@
 -- A plan is accepted exactly when it leads to the goal.
-use Rattle.std.proofs.Common.{◌≡◌, ℕ, ◌+◌, ◌<◌, ◌≤◌, Bool, true, false, cond, ltb, List, [], ◌∷◌, length, get_or, Some, None, Ok, Err, Option, Result, sym, refl, ap, ◌∙◌, subst, arith}
+use Rattle.std.proofs.Common.{◌≡◌, ℕ, ◌+◌, ◌<◌, ◌≤◌, Bool, true, false, cond, ltb, List, [], ◌∷◌, length, get_or, Some, None, Ok, Err, Option, option_and_then, Result, sym, refl, ap, ◌∙◌, subst, arith}
 use Rattle.std.proofs.lemmas.Bool.{cond-true, cond-false, lt-ltb, le-ltb, ltb-true}
 use Rattle.std.specs.List.{slice_get}
 use Rattle.records.specs.declared.PaperKind.TheVariants.{Plan}
@@ -9,34 +9,34 @@ use Rattle.records.proofs.Written.{single_holds, holds_single}
 use Rattle.costs.specs.Kind.{Kind}
 use Rattle.formulas.specs.Formula.{holds}
 use Rattle.formulas.specs.Results.{state, result}
-use Rattle.task.specs.declared.stepping.Step.TheVariants.{Inapplicable, To}
-use Rattle.task.specs.Meaning.{tried, arrived}
+use Rattle.task.specs.declared.stepping.StepFault.TheVariants.{Inapplicable}
+use Rattle.task.specs.Meaning.{arrival, tried, arrived}
 use Rattle.planning.specs.Model.{Action, Model}
 use Rattle.planning.specs.Leads.{Steps, Leads}
 use Rattle.planning.proofs.Resulting.{results_from, results_is}
 use Rattle.plans.specs.declared.verdict.Reached.{Reached}
 use Rattle.plans.specs.declared.verdict.PlanFault.TheVariants.{Record, TooManySteps, GoalFalse}
 use Rattle.plans.specs.Verdicts.{reached, steps_in, charged, taken, next, run, begin, finished, judged, plan_verdict}
-use Rattle.plans.specs.Achieves.{if_some, cost_from, Achieves, Accepted, Exact}
+use Rattle.plans.specs.Achieves.{cost_from, Achieves, Accepted, Exact}
 
 cond_ok : {X E : Type 0} (b : Bool) (x : Result X E) (f : E) (q : X) → cond b x (Err f) ≡ Ok q → (b ≡ true) × (x ≡ Ok q)
 cond_ok true x f q e = (refl, e)
-cond_ok false x f q e = absurd (let z : ◌≡◌ {A = ℕ} 0 1 = cc in omega arith)
+cond_ok false x f q e = cc
 
 cond_bad : {X E : Type 0} (b : Bool) (x : Result X E) (f : E) (q : X) → cond b (Err f) x ≡ Ok q → (b ≡ false) × (x ≡ Ok q)
-cond_bad true x f q e = absurd (let z : ◌≡◌ {A = ℕ} 0 1 = cc in omega arith)
+cond_bad true x f q e = cc
 cond_bad false x f q e = (refl, e)
 
 then_ok : {X Y E : Type 0} (x : Result X E) (f : X → Result Y E) (q : Y) → and_then x f ≡ Ok q → (p : X) × (x ≡ Ok p) × (f p ≡ Ok q)
 then_ok (Ok p) f q e = (p, refl, e)
-then_ok (Err d) f q e = absurd (let z : ◌≡◌ {A = ℕ} 0 1 = cc in omega arith)
+then_ok (Err d) f q e = cc
 
 map_ok : {X E F : Type 0} (g : E → F) (x : Result X E) (p : X) → map_err g x ≡ Ok p → x ≡ Ok p
 map_ok g (Ok y) p e = let is : y ≡ p = cc in ap Ok is
-map_ok g (Err d) p e = absurd (let z : ◌≡◌ {A = ℕ} 0 1 = cc in omega arith)
+map_ok g (Err d) p e = cc
 
-some_some : {A B : Type 0} (x : Option A) (f : A → Option B) (b : B) → if_some x f ≡ Some b → (a : A) × (x ≡ Some a) × (f a ≡ Some b)
-some_some None f b e = absurd (let z : ◌≡◌ {A = ℕ} 0 1 = cc in omega arith)
+some_some : {A B : Type 0} (x : Option A) (f : A → Option B) (b : B) → option_and_then f x ≡ Some b → (a : A) × (x ≡ Some a) × (f a ≡ Some b)
+some_some None f b e = cc
 some_some (Some a) f b e = (a, refl, e)
 
 module _ {C : Type 0} (K : Kind C) (m : Model) where
@@ -48,18 +48,18 @@ module _ {C : Type 0} (K : Kind C) (m : Model) where
     pub cost : K.join r.cost (K.one step.operator.minutes step.operator.crew) ≡ Some q.cost
 
   charged_to : (t k : ℕ) (x : Option C) (q : Reached C) → charged t k x ≡ Ok q → (x ≡ Some q.cost) × (t ≡ q.state) × (q.steps ≡ k + 1)
-  charged_to t k None q e = absurd (let z : ◌≡◌ {A = ℕ} 0 1 = cc in omega arith)
+  charged_to t k None q e = cc
   charged_to t k (Some c) q e =
       let is : reached t (k + 1) c ≡ q = cc in
       (ap (λ x. Some x.cost) is, ap (λ x. x.state) is, sym (ap (λ x. x.steps) is))
 
-  fit : (r : Reached C) (q : Reached C) (h : Bool) (t mi cr : ℕ) → taken K r (cond h (To t mi cr) Inapplicable) ≡ Ok q → (h ≡ true) × (charged t r.steps (K.join r.cost (K.one mi cr)) ≡ Ok q)
+  fit : (r : Reached C) (q : Reached C) (h : Bool) (t mi cr : ℕ) → taken K r (cond h (Ok (arrival t mi cr)) (Err Inapplicable)) ≡ Ok q → (h ≡ true) × (charged t r.steps (K.join r.cost (K.one mi cr)) ≡ Ok q)
   fit r q true t mi cr e = (refl, e)
-  fit r q false t mi cr e = absurd (let z : ◌≡◌ {A = ℕ} 0 1 = cc in omega arith)
+  fit r q false t mi cr e = cc
 
   taken_to : (r : Reached C) (q : Reached C) (x : Option Action) → taken K r (tried m.variables r.state x) ≡ Ok q
       → (a : Action) × (x ≡ Some a) × (holds (state r.state) a.precondition ≡ true) × (charged (result m.variables a.effect r.state) r.steps (K.join r.cost (K.one a.minutes a.crew)) ≡ Ok q)
-  taken_to r q None e = absurd (let z : ◌≡◌ {A = ℕ} 0 1 = cc in omega arith)
+  taken_to r q None e = cc
   taken_to r q (Some a) e =
       let p = fit r q (holds (state r.state) a.precondition) (result m.variables a.effect r.state) a.minutes a.crew e in
       (a, refl, p.0, p.1)
@@ -83,7 +83,7 @@ module _ {C : Type 0} (K : Kind C) (m : Model) where
       let w = result m.variables a.effect r.state in
       cond-true _ _ _ (lt-ltb r.steps 4096 n.room)
       ∙ ap (λ x. taken K r (tried m.variables r.state x)) n.step.is
-      ∙ ap (λ h. taken K r (cond h (To w a.minutes a.crew) Inapplicable)) n.step.applies
+      ∙ ap (λ h. taken K r (cond h (Ok (arrival w a.minutes a.crew)) (Err Inapplicable))) n.step.applies
       ∙ ap (charged w r.steps) n.cost
       ∙ λ i. Ok (reached (sym (results_is m.variables a.effect r.state q.state n.step.gives) i) (sym n.steps i) q.cost)
 
@@ -106,8 +106,8 @@ module _ {C : Type 0} (K : Kind C) (m : Model) where
         leads = (p.state, n.step, later.leads);
         steps = omega (arith, later.steps, n.steps);
         cost =
-            ap (λ x. if_some x (λ a. if_some (K.join r.cost (K.one a.minutes a.crew)) (λ d. cost_from K m d os))) n.step.is
-            ∙ ap (λ x. if_some x (λ d. cost_from K m d os)) n.cost ∙ later.cost;
+            ap (λ x. option_and_then (λ a. option_and_then (λ d. cost_from K m d os) (K.join r.cost (K.one a.minutes a.crew))) x) n.step.is
+            ∙ ap (λ x. option_and_then (λ d. cost_from K m d os) x) n.cost ∙ later.cost;
       }
 
   run_from : (os : List ℕ) (r q : Reached C) → r.steps + length os ≤ 4096 → Ran r os q → run K m r os ≡ Ok q
@@ -120,7 +120,7 @@ module _ {C : Type 0} (K : Kind C) (m : Model) where
       let s = a.leads.1 in
       let act = s.operator in
       let paid = some_some (K.join r.cost (K.one act.minutes act.crew)) (λ d. cost_from K m d os) q.cost
-      (sym (ap (λ x. if_some x (λ a. if_some (K.join r.cost (K.one a.minutes a.crew)) (λ d. cost_from K m d os))) s.is) ∙ a.cost) in
+      (sym (ap (λ x. option_and_then (λ a. option_and_then (λ d. cost_from K m d os) (K.join r.cost (K.one a.minutes a.crew))) x) s.is) ∙ a.cost) in
       let p : Reached C = reached u (r.steps + 1) paid.0 in
       let n : Next r o p = record { room = omega arith; step = s; steps = refl; cost = paid.1 } in
       ap (λ x. and_then x (λ p. run K m p os)) (next_from r o p n)

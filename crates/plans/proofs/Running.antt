@@ -1,9 +1,10 @@
 -- The steps of a plan, read from its body one after another.
-use Rattle.std.proofs.Common.{◌≡◌, ℕ, ◌+◌, ◌-◌, ◌/◌, ◌<◌, ◌≤◌, Bool, true, false, cond, ltb, List, [], ◌∷◌, ◌++◌, length, get_or, take, drop, Some, None, Ok, Err, Option, sym, refl, ap, ◌∙◌, arith}
-use Rattle.std.proofs.lemmas.List.{take_rest}
+use Rattle.std.proofs.Common.{◌≡◌, ℕ, ◌+◌, ◌/◌, ◌<◌, ◌≤◌, Bool, true, false, cond, ltb, List, [], ◌∷◌, ◌++◌, length, get_or, map, suc, Some, None, Ok, Err, Option, Result, sym, refl, ap, ◌∙◌, arith}
+use Rattle.std.specs.Simd.{first_chunks}
 use Rattle.std.proofs.lemmas.Bool.{cond-true, cond-false, lt-ltb, le-ltb, ltb-true}
-use Rattle.task.specs.declared.stepping.Step.{Step}
-use Rattle.task.specs.declared.stepping.Step.TheVariants.{Missing, Inapplicable, To}
+use Rattle.task.specs.declared.stepping.Arrival.{Arrival}
+use Rattle.task.specs.declared.stepping.StepFault.{StepFault}
+use Rattle.task.specs.declared.stepping.StepFault.TheVariants.{Missing, Inapplicable}
 use Rattle.task.specs.Meaning.{stepped}
 use Rattle.records.specs.Cuts.{le2}
 use Rattle.records.specs.declared.PaperKind.TheVariants.{Plan}
@@ -12,22 +13,20 @@ use Rattle.records.specs.Walks.{map_err}
 use Rattle.costs.specs.Kind.{Kind}
 use Rattle.planning.specs.Model.{Model}
 use Rattle.plans.specs.declared.verdict.Reached.{Reached}
-use Rattle.plans.specs.declared.verdict.PlanFault.{PlanFault}
 use Rattle.plans.specs.declared.verdict.PlanFault.TheVariants.{Record, TooManySteps}
 use Rattle.plans.specs.Verdicts.{Answer, reached, steps_in, charged, taken, next, run, begin, finished, judged, plan_verdict}
 
-pub steps_cut : (bs : List ℕ) → 2 ≤ length bs → steps_in bs ≡ le2 (get_or bs 0 0) (get_or bs 1 0) ∷ steps_in (take (length bs - 2) (drop 2 bs))
-steps_cut bs h = front bs h ∙ ap (λ q. le2 (get_or bs 0 0) (get_or bs 1 0) ∷ steps_in q) (sym (take_rest bs 2))
-  where
-    front : (bs : List ℕ) → 2 ≤ length bs → steps_in bs ≡ le2 (get_or bs 0 0) (get_or bs 1 0) ∷ steps_in (drop 2 bs)
-    front [] h = absurd (omega arith)
-    front (a ∷ []) h = absurd (omega arith)
-    front (a ∷ b ∷ bs) h = refl
+-- the operator that two bytes number
+abbrev pub operator_of : List ℕ → ℕ
+operator_of p = le2 (get_or p 0 0) (get_or p 1 0)
 
-pub steps_end : (bs : List ℕ) → length bs < 2 → steps_in bs ≡ []
-steps_end [] h = refl
-steps_end (a ∷ []) h = refl
-steps_end (a ∷ b ∷ bs) h = absurd (omega arith)
+-- a body's steps are the operators of its pairs
+pub steps_paired : (bs : List ℕ) → steps_in bs ≡ map operator_of (first_chunks 2 (length bs / 2) bs)
+steps_paired [] = refl
+steps_paired (a ∷ []) = refl
+steps_paired (a ∷ b ∷ bs) =
+    let more : suc (length bs / 2) ≡ length (a ∷ b ∷ bs) / 2 = omega arith in
+    ap (λ os. le2 a b ∷ os) (steps_paired bs) ∙ ap (λ k. map operator_of (first_chunks 2 k (a ∷ b ∷ bs))) more
 
 pub length_steps : (bs : List ℕ) → length (steps_in bs) ≡ length bs / 2
 length_steps [] = refl
@@ -35,16 +34,6 @@ length_steps (a ∷ []) = refl
 length_steps (a ∷ b ∷ bs) = omega (arith, length_steps bs)
 
 module _ {C : Type 0} (K : Kind C) (m : Model) where
-  module _ (r : Reached C) (bs : List ℕ) (o : ℕ) (more : 2 ≤ length bs) (is : o ≡ le2 (get_or bs 0 0) (get_or bs 1 0)) where
-    unrolled : run K m r (steps_in bs) ≡ and_then (next K m r o) (λ q. run K m q (steps_in (take (length bs - 2) (drop 2 bs))))
-    unrolled = ap (run K m r) (steps_cut bs more) ∙ ap (λ q. run K m r (q ∷ steps_in (take (length bs - 2) (drop 2 bs)))) (sym is)
-
-    pub run_on : (q : Reached C) → Ok q ≡ next K m r o → run K m q (steps_in (take (length bs - 2) (drop 2 bs))) ≡ run K m r (steps_in bs)
-    run_on q e = sym (unrolled ∙ ap (λ x. and_then x (λ q. run K m q (steps_in (take (length bs - 2) (drop 2 bs))))) (sym e))
-
-    pub run_off : (f : PlanFault) → Err f ≡ next K m r o → Err f ≡ run K m r (steps_in bs)
-    run_off f e = sym (unrolled ∙ ap (λ x. and_then x (λ q. run K m q (steps_in (take (length bs - 2) (drop 2 bs))))) (sym e))
-
   module _ (paper body : List ℕ) (is : Ok body ≡ single_in Plan paper) where
     opened : plan_verdict K m paper ≡ judged K m (steps_in body)
     opened = ap (λ x. and_then (map_err Record x) (λ bs. judged K m (steps_in bs))) (sym is)
@@ -79,21 +68,21 @@ module _ {C : Type 0} (K : Kind C) (m : Model) where
   next_few r o q e = go (ltb r.steps 4096) refl e
     where
       charged_steps : (t k : ℕ) (x : Option C) → charged t k x ≡ Ok q → q.steps ≡ k + 1
-      charged_steps t k None e = absurd (let z : ◌≡◌ {A = ℕ} 0 1 = cc in omega arith)
+      charged_steps t k None e = cc
       charged_steps t k (Some c) e = let is : reached t (k + 1) c ≡ q = cc in sym (ap (λ x. x.steps) is)
 
-      taken_steps : (s : Step) → taken K r s ≡ Ok q → q.steps ≡ r.steps + 1
-      taken_steps Missing e = absurd (let z : ◌≡◌ {A = ℕ} 0 1 = cc in omega arith)
-      taken_steps Inapplicable e = absurd (let z : ◌≡◌ {A = ℕ} 0 1 = cc in omega arith)
-      taken_steps (To s mi cr) e = charged_steps s r.steps (K.join r.cost (K.one mi cr)) e
+      taken_steps : (s : Result Arrival StepFault) → taken K r s ≡ Ok q → q.steps ≡ r.steps + 1
+      taken_steps (Err Missing) e = cc
+      taken_steps (Err Inapplicable) e = cc
+      taken_steps (Ok a) e = charged_steps a.state r.steps (K.join r.cost (K.one a.minutes a.crew)) e
 
       go : (b : Bool) → ltb r.steps 4096 ≡ b → cond b (taken K r (stepped m r.state o)) (Err TooManySteps) ≡ Ok q → q.steps ≤ 4096
       go true l e = omega (arith, taken_steps (stepped m r.state o) e, ltb-true r.steps 4096 l)
-      go false l e = absurd (let z : ◌≡◌ {A = ℕ} 0 1 = cc in omega arith)
+      go false l e = cc
 
   then_few : (os : List ℕ) (q : Reached C) → ((p : Reached C) → p.steps ≤ 4096 → run K m p os ≡ Ok q → q.steps ≤ 4096) → (x : Answer C) → ((p : Reached C) → x ≡ Ok p → p.steps ≤ 4096) → and_then x (λ p. run K m p os) ≡ Ok q → q.steps ≤ 4096
   then_few os q on (Ok p) few e = on p (few p refl) e
-  then_few os q on (Err f) few e = absurd (let z : ◌≡◌ {A = ℕ} 0 1 = cc in omega arith)
+  then_few os q on (Err f) few e = cc
 
   pub run_few : (os : List ℕ) (r q : Reached C) → r.steps ≤ 4096 → run K m r os ≡ Ok q → q.steps ≤ 4096
   run_few [] r q few e = let is : r ≡ q = cc in omega (arith, ap (λ x. x.steps) is)

@@ -1,5 +1,5 @@
 -- Which plans are accepted, and with what.
-use Rattle.std.specs.Prelude.{◌≡◌, ℕ, ◌≤◌, true, List, [], ◌∷◌, length, Some, None, Ok, Option}
+use Rattle.std.specs.Prelude.{◌≡◌, ℕ, ◌≤◌, true, List, [], ◌∷◌, length, Some, Ok, Option, option_and_then}
 use Rattle.std.specs.List.{slice_get}
 use Rattle.records.specs.declared.PaperKind.TheVariants.{Plan}
 use Rattle.records.specs.Papers.{Holds}
@@ -10,14 +10,10 @@ use Rattle.planning.specs.Leads.{Leads}
 use Rattle.plans.specs.declared.verdict.Reached.{Reached}
 use Rattle.plans.specs.Verdicts.{Answer, steps_in}
 
-abbrev pub if_some : {A B : Type 0} → Option A → (A → Option B) → Option B
-if_some None f = None
-if_some (Some x) f = f x
-
 -- the costs of the operators, joined to c in turn; none where one is refused
 abbrev pub cost_from : {C : Type 0} → Kind C → Model → C → List ℕ → Option C
 cost_from K m c [] = Some c
-cost_from K m c (o ∷ os) = if_some (slice_get m.operators o) (λ a. if_some (K.join c (K.one a.minutes a.crew)) (λ d. cost_from K m d os))
+cost_from K m c (o ∷ os) = option_and_then (λ a. option_and_then (λ d. cost_from K m d os) (K.join c (K.one a.minutes a.crew))) (slice_get m.operators o)
 
 -- the operators lead from the start to a goal state, in so many steps and at that cost
 pub record Achieves {C : Type 0} (K : Kind C) (m : Model) (os : List ℕ) (q : Reached C) : Type 0 where

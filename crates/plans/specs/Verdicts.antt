@@ -5,17 +5,20 @@ use Rattle.records.specs.declared.PaperKind.TheVariants.{Plan}
 use Rattle.records.specs.Single.{and_then, single_in}
 use Rattle.records.specs.Walks.{map_err}
 use Rattle.costs.specs.Kind.{Kind}
-use Rattle.task.specs.declared.stepping.Step.{Step}
-use Rattle.task.specs.declared.stepping.Step.TheVariants.{Missing, Inapplicable, To}
+use Rattle.task.specs.declared.stepping.Arrival.{Arrival}
+use Rattle.task.specs.declared.stepping.StepFault.{StepFault}
+use Rattle.task.specs.declared.stepping.StepFault.TheVariants.{Missing, Inapplicable}
 use Rattle.task.specs.Meaning.{stepped, arrived}
 use Rattle.planning.specs.Model.{Model}
 use Rattle.plans.specs.declared.verdict.Reached.{Reached}
 use Rattle.plans.specs.declared.verdict.PlanFault.{PlanFault}
 use Rattle.plans.specs.declared.verdict.PlanFault.TheVariants.{Record, TooManySteps, NoOperator, Inapplicable as Unfit, CostRefused, GoalFalse}
 
+-- what a judge of plans answers
 abbrev pub Answer : Type 0 → Type 0
 Answer C = Result (Reached C) PlanFault
 
+-- the state s, after k steps, at the cost c
 abbrev pub reached : {C : Type 0} → ℕ → ℕ → C → Reached C
 reached s k c = record { state = s; steps = k; cost = c }
 
@@ -30,10 +33,11 @@ abbrev pub charged : {C : Type 0} → ℕ → ℕ → Option C → Answer C
 charged s k None = Err (CostRefused k)
 charged s k (Some c) = Ok (reached s (k + 1) c)
 
-abbrev pub taken : {C : Type 0} → Kind C → Reached C → Step → Answer C
-taken K r Missing = Err (NoOperator r.steps)
-taken K r Inapplicable = Err (Unfit r.steps)
-taken K r (To s m c) = charged s r.steps (K.join r.cost (K.one m c))
+-- the step after r, as the task answers it
+abbrev pub taken : {C : Type 0} → Kind C → Reached C → Result Arrival StepFault → Answer C
+taken K r (Err Missing) = Err (NoOperator r.steps)
+taken K r (Err Inapplicable) = Err (Unfit r.steps)
+taken K r (Ok a) = charged a.state r.steps (K.join r.cost (K.one a.minutes a.crew))
 
 -- one step more
 abbrev pub next : {C : Type 0} → Kind C → Model → Reached C → ℕ → Answer C
@@ -44,6 +48,7 @@ abbrev pub run : {C : Type 0} → Kind C → Model → Reached C → List ℕ �
 run K m r [] = Ok r
 run K m r (o ∷ os) = and_then (next K m r o) (λ q. run K m q os)
 
+-- where a plan begins: the start, after no steps, at no cost
 abbrev pub begin : {C : Type 0} → Kind C → Model → Reached C
 begin K m = reached m.start 0 K.zero
 
@@ -51,6 +56,7 @@ begin K m = reached m.start 0 K.zero
 abbrev pub finished : {C : Type 0} → Model → Reached C → Answer C
 finished m r = cond (arrived m r.state) (Ok r) (Err (GoalFalse r.steps))
 
+-- a plan of at most 4,096 steps, taken one after another, that ends at the goal
 abbrev pub judged : {C : Type 0} → Kind C → Model → List ℕ → Answer C
 judged K m os = cond (nat_lt 4096 (length os)) (Err TooManySteps) (and_then (run K m (begin K m) os) (finished m))
 

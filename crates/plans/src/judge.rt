@@ -8,10 +8,21 @@ use crate::verdict::{PlanFault, Reached};
 use costs::cost::Cost;
 use records::{PaperKind, single};
 use task::place::Task;
-use task::stepping::Step;
+use task::stepping::StepFault;
 
 /// No plan has more steps.
 const LONGEST: u16 = 4096;
+
+/// Where a plan begins: the task's start, after no steps, at no cost.
+pub fn begin<C: Cost>(task: &Task) -> Reached<C>
+    ensures { result ≡ begin C.Cost.kind (model task.now) }
+{
+    Reached {
+        state: task.start(),
+        steps: 0,
+        cost: C::zero(),
+    }
+}
 
 /// Takes one step more.
 pub fn take_step<C: Cost>(
@@ -25,37 +36,32 @@ pub fn take_step<C: Cost>(
     if step >= LONGEST {
         return Err(PlanFault::TooManySteps);
     }
-    match task.step(operator, from.state) {
-        Step::Missing => Err(PlanFault::NoOperator { step }),
-        Step::Inapplicable => Err(PlanFault::Inapplicable { step }),
-        Step::To {
-            state,
-            minutes,
-            crew,
-        } => match from.cost.join(C::of(minutes, crew)) {
-            Some(cost) => Ok(Reached {
-                state,
-                steps: step + 1,
-                cost,
-            }),
-            None => Err(PlanFault::CostRefused { step }),
-        },
-    }
+    let arrival = task
+        .step(operator, from.state)
+        .map_err(|fault| match fault {
+            StepFault::Missing => PlanFault::NoOperator { step },
+            StepFault::Inapplicable => PlanFault::Inapplicable { step },
+        })?;
+    let price = C::of(arrival.minutes, arrival.crew);
+    let cost = from
+        .cost
+        .join(price)
+        .ok_or(PlanFault::CostRefused { step })?;
+    Ok(Reached {
+        state: arrival.state,
+        steps: step + 1,
+        cost,
+    })
 }
 
 /// Takes the steps that a plan's body lists.
 fn take_steps<C: Cost>(task: &Task, body: &[u8]) -> Result<Reached<C>, PlanFault>
     ensures { result ≡ run C.Cost.kind (model task.now) (begin C.Cost.kind (model task.now)) (steps_in body.now) }
 {
-    let mut reached = Reached {
-        state: task.start(),
-        steps: 0,
-        cost: C::zero(),
-    };
-    let mut rest = body;
-    while let [low, high, tail @ ..] = rest {
-        reached = take_step(task, &reached, u16::from_le_bytes([*low, *high]))?;
-        rest = tail;
+    let mut reached = begin(task);
+    let (steps, _) = body.as_chunks::<2>();
+    for operator in steps {
+        reached = take_step(task, &reached, u16::from_le_bytes(*operator))?;
     }
     Ok(reached)
 }

@@ -3,9 +3,8 @@ ghost use Rattle.std.specs.Prelude.{◌≡◌};
 ghost use Rattle.plans.specs.Faults.{number_of, layer_of, place_of};
 ghost use Rattle.plans.specs.declared.verdict.PlanFault.TheVariants.{Record};
 
-use records::{Layer, RecordFault};
-use std::fmt;
-use std::fmt::Display;
+use records::{Fault, Layer, RecordFault};
+use thiserror::Error;
 
 /// Where a plan leads, in how many steps, and at what cost.
 #[derive(Clone, Copy)]
@@ -16,27 +15,36 @@ pub struct Reached<C> {
 }
 
 /// The first fault of a plan, with the step at fault, counted from 0.
-#[derive(Clone, Copy)]
+#[derive(Clone, Copy, Debug, PartialEq, Eq, Error)]
 pub enum PlanFault {
     /// The paper is not one record of a plan.
+    #[error(transparent)]
     Record(RecordFault),
     /// There are more than 4,096 steps.
+    #[error("a plan has at most 4,096 steps")]
     TooManySteps,
     /// There is no operator of that number.
+    #[error("step {step} names an operator that the task does not have")]
     NoOperator { step: u16 },
     /// The operator's precondition is false in the state reached.
+    #[error("the precondition of the operator at step {step} is false in the state reached")]
     Inapplicable { step: u16 },
     /// The cost so far and the operator's cannot be joined.
+    #[error("the cost after step {step} is beyond the largest that its kind can hold")]
     CostRefused { step: u16 },
     /// The goal is false after the last step.
+    #[error("the goal is false after the last of {steps} steps")]
     GoalFalse { steps: u16 },
 }
 
-impl PlanFault {
-    /// The fault's number among all verdicts.
-    pub fn number(&self) -> u8
-        ensures { result ≡ number_of self.now }
-    {
+impl Fault for PlanFault {
+    ghost number = { number_of };
+
+    ghost layer = { layer_of };
+
+    ghost place = { place_of };
+
+    fn number(&self) -> u8 {
         match self {
             PlanFault::Record(fault) => fault.number(),
             PlanFault::TooManySteps => 9,
@@ -47,10 +55,7 @@ impl PlanFault {
         }
     }
 
-    /// The layer whose rules are broken.
-    pub fn layer(&self) -> Layer
-        ensures { result ≡ layer_of self.now }
-    {
+    fn layer(&self) -> Layer {
         match self {
             PlanFault::Record(fault) => fault.layer(),
             PlanFault::TooManySteps
@@ -62,9 +67,7 @@ impl PlanFault {
     }
 
     /// The record's byte, the most steps, the step at fault, or how many steps there are.
-    pub fn place(&self) -> usize
-        ensures { result ≡ place_of self.now }
-    {
+    fn place(&self) -> usize {
         match self {
             PlanFault::Record(fault) => fault.place(),
             PlanFault::TooManySteps => 4096,
@@ -76,35 +79,11 @@ impl PlanFault {
     }
 }
 
+// Kept: by hand, since contracts name the variant and a derived `From` has no contract.
 impl From<RecordFault> for PlanFault {
     ghost from_gives = { λ x y. y ≡ Record x };
 
     fn from(fault: RecordFault) -> PlanFault {
         PlanFault::Record(fault)
-    }
-}
-
-impl fmt::Display for PlanFault {
-    fn fmt<W: fmt::Write>(&self, f: &mut fmt::Formatter<W>) -> fmt::Result {
-        match self {
-            PlanFault::Record(fault) => fault.fmt(f),
-            PlanFault::TooManySteps => f.write_str("a plan has at most 4,096 steps"),
-            PlanFault::NoOperator { step } => write!(
-                f,
-                "step {step} names an operator that the task does not have"
-            ),
-            PlanFault::Inapplicable { step } => write!(
-                f,
-                "the precondition of the operator at step {step} is false in the state reached"
-            ),
-            PlanFault::CostRefused { step } => write!(
-                f,
-                "the cost after step {step} is beyond the largest that its kind can hold"
-            ),
-            PlanFault::GoalFalse { steps } => write!(
-                f,
-                "the goal is false after the last of {steps} steps"
-            ),
-        }
     }
 }

@@ -1,9 +1,11 @@
 -- A loop that walks over the records of a paper.
-use Rattle.std.proofs.Common.{◌≡◌, ℕ, zero, suc, ◌+◌, ◌<◌, ◌≤◌, List, [], ◌∷◌, length, Ok, Err, Result, sym, refl, ap, ◌∙◌, arith}
-use Rattle.records.specs.Cuts.{Split, cut_at}
+use Rattle.std.proofs.Common.{◌≡◌, ℕ, zero, suc, ◌+◌, ◌<◌, ◌≤◌, List, [], ◌∷◌, length, Some, Ok, Err, Result, sym, refl, ap, ◌∙◌, subst, arith}
+use Rattle.records.specs.Cuts.{Split, split, cut_at}
 use Rattle.records.specs.Single.{and_then}
 use Rattle.records.specs.declared.RecordFault.{RecordFault}
-use Rattle.records.specs.Walks.{map_err, walk}
+use Rattle.records.specs.Walks.{map_err, walk, left_in, Gives}
+use Rattle.records.specs.declared.Cut.{Cut}
+use Rattle.records.specs.declared.Records.{Records}
 
 module _ {S E : Type 0} (lift : RecordFault → E) (step : ℕ → Split → S → Result S E) (paper : List ℕ) (start : S) where
   -- the walk from here gives what the whole walk gives
@@ -47,3 +49,20 @@ module _ {S E : Type 0} (lift : RecordFault → E) (step : ℕ → Split → S �
           place = omega (arith, so.place);
           same = ap (λ q. and_then q (λ t. walk lift step (next so.turns at rest s so.enough some).0 (at + (6 + length r.body)) r.rest t)) (sym was) ∙ on;
         }
+
+  -- the walk over what the records of a paper have left
+  abbrev pub Along : Records → S → Type 0
+  Along w s = Sofar w.at (left_in w) s
+
+  -- it goes on at the next record
+  pub onward : {w t : Records} {s : S} {c : Cut} → Along w s → Gives w (Some (Ok c)) t → (u : S) → step c.at (split c.kind c.body.now c.rest.now) s ≡ Ok u → Along t u
+  onward {w} {t} {s} {c} so gives u was =
+      let r = split c.kind c.body.now c.rest.now in
+      let next = steps so gives.1 r (sym gives.0) u (ap (λ n. step n r s) (sym gives.2.begins) ∙ was) gives.2.long in
+      subst (λ (n : ℕ). Sofar n (left_in t) u) (sym gives.2.onward) (subst (λ (bs : List ℕ). Sofar (w.at + (6 + length c.body.now)) bs u) (sym gives.2.left) next)
+
+  -- it ends at a record that the step refuses
+  pub stops : {w t : Records} {s : S} {c : Cut} → Along w s → Gives w (Some (Ok c)) t → (e : E) → step c.at (split c.kind c.body.now c.rest.now) s ≡ Err e → walk lift step (length paper) 0 paper start ≡ Err e
+  stops {w} {t} {s} {c} so gives e was =
+      let r = split c.kind c.body.now c.rest.now in
+      halts so gives.1 r (sym gives.0) e (ap (λ n. step n r s) (sym gives.2.begins) ∙ was)

@@ -2,16 +2,9 @@
 use Rattle.std.specs.Prelude.{◌≡◌, ℕ, List, ◌++◌, Some, None, Ok, Err, vec_items, codes, Result}
 use Rattle.script.specs.declared.fault.ScriptFault.{ScriptFault}
 use Rattle.script.specs.declared.fault.ScriptFault.TheVariants as faults
-use Rattle.script.specs.declared.kind.KindWords.{KindWords}
 use Rattle.script.specs.declared.paper.PaperWord.{PaperWord}
 use Rattle.script.specs.declared.paper.PaperWord.TheVariants.{Path, Bytes}
 use Rattle.script.specs.Hex.{bytes_of}
-use Rattle.script.specs.Names.{Names, kind_name}
-
--- the kind of cost that a word names, or the fault that it names none
-abbrev pub KindRead : List ℕ → Result KindWords ScriptFault → Type 0
-KindRead word (Ok kind) = Names kind_name word (Some kind)
-KindRead word (Err fault) = Names kind_name word None
 
 -- the digits stand after `hex:` in the word
 abbrev pub Hex : List ℕ → List ℕ → Type 0

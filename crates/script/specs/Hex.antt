@@ -1,8 +1,5 @@
 -- Bytes written as hexadecimal digits.
-use Rattle.std.specs.Prelude.{◌≡◌, ℕ, ◌+◌, ◌-◌, ◌*◌, Bool, cond, ◌&&◌, List, [], ◌∷◌, ◌++◌, Some, None, Ok, Err, vec_items, Option, Result, Vec, nat_le}
-use Rattle.std.specs.declared.alloc.Global.{Global}
-use Rattle.script.specs.declared.hex.HexFault.{HexFault}
-use Rattle.script.specs.declared.hex.HexFault.TheVariants.{NotHex, NoMemory}
+use Rattle.std.specs.Prelude.{ℕ, ◌+◌, ◌-◌, ◌*◌, Bool, cond, ◌&&◌, List, [], ◌∷◌, ◌++◌, Some, None, Option, nat_le}
 
 -- the byte lies from one to another, both among them
 abbrev pub within : ℕ → ℕ → ℕ → Bool
@@ -39,9 +36,3 @@ abbrev pub bytes_of : List ℕ → Option (List ℕ)
 bytes_of [] = Some []
 bytes_of (odd ∷ []) = None
 bytes_of (high ∷ (low ∷ rest)) = first (byte_of high low) (bytes_of rest)
-
--- the answer is the bytes that the digits write, or a refusal where they write none, unless memory is wanting
-abbrev pub Decoded : List ℕ → Result (Vec ℕ Global) HexFault → Type 0
-Decoded digits (Ok bytes) = bytes_of digits ≡ Some (vec_items bytes)
-Decoded digits (Err NotHex) = bytes_of digits ≡ None
-Decoded digits (Err NoMemory) = Unit {0}

@@ -1,5 +1,5 @@
 -- The words that name things in a script.
-use Rattle.std.specs.Prelude.{◌≡◌, ℕ, List, ◌++◌, Some, None, codes, Option, ◌≢◌}
+use Rattle.std.specs.Prelude.{◌≡◌, ℕ, List, ◌++◌, Some, None, Ok, Err, codes, Option, Result, ◌≢◌}
 use Rattle.script.specs.declared.kind.Measure.{Measure}
 use Rattle.script.specs.declared.kind.Measure.TheVariants.{Minutes, Crew, Steps}
 use Rattle.script.specs.declared.kind.KindWords.{KindWords}
@@ -17,6 +17,11 @@ use Rattle.script.specs.declared.command.Command.TheVariants as commands
 abbrev pub Names : {V : Type 0} → (V → List ℕ) → List ℕ → Option V → Type 0
 Names name word (Some v) = word ≡ name v
 Names name word None = (v : _) → word ≢ name v
+
+-- the value that the word names, or an error that it names none
+abbrev pub NameRead : {V E : Type 0} → (V → List ℕ) → List ℕ → Result V E → Type 0
+NameRead name word (Ok v) = Names name word (Some v)
+NameRead name word (Err e) = Names name word None
 
 -- the name of a measure
 abbrev pub measure_name : Measure → List ℕ

@@ -1,12 +1,13 @@
 //! The commands of a script, and how a line is read.
 ghost use Rattle.std.specs.Prelude.{IfOk};
-ghost use Rattle.script.specs.Names.{Names, verb_name, Calls};
+ghost use Rattle.script.specs.Names.{NameRead, kind_name, verb_name, Calls};
 
-use crate::fault::ScriptFault;
+use crate::fault::{NoName, ScriptFault};
 use crate::kind::KindWords;
 use crate::paper::PaperWord;
 use crate::set::SetWords;
-use std::alloc::Global;
+use std::alloc::{AllocError, Global};
+use std::str::FromStr;
 
 /// What one line asks for.
 #[derive(Drop)]
@@ -36,25 +37,29 @@ enum Verb {
     Card,
 }
 
-impl Verb {
+impl FromStr for Verb {
+    type Err = NoName;
+
+    ghost from_str_gives = { NameRead verb_name };
+
     /// The verb of this name.
-    fn named(word: &str) -> Option<Verb>
-        ensures { Names verb_name word.now result }
-    {
+    fn from_str(word: &str) -> Result<Verb, NoName> {
         match word {
-            "task" => Some(Verb::Task),
-            "open" => Some(Verb::Open),
-            "plan" => Some(Verb::Plan),
-            "proof" => Some(Verb::Proof),
-            "begin" => Some(Verb::Begin),
-            "step" => Some(Verb::Step),
-            "finish" => Some(Verb::Finish),
-            "give-up" => Some(Verb::GiveUp),
-            "card" => Some(Verb::Card),
-            _ => None,
+            "task" => Ok(Verb::Task),
+            "open" => Ok(Verb::Open),
+            "plan" => Ok(Verb::Plan),
+            "proof" => Ok(Verb::Proof),
+            "begin" => Ok(Verb::Begin),
+            "step" => Ok(Verb::Step),
+            "finish" => Ok(Verb::Finish),
+            "give-up" => Ok(Verb::GiveUp),
+            "card" => Ok(Verb::Card),
+            _ => Err(NoName),
         }
     }
+}
 
+impl Verb {
     /// How its command is written.
     fn usage(self) -> &'static str {
         match self {
@@ -89,16 +94,15 @@ impl Command<'_> {
     ) -> Result<Command<'a>, ScriptFault<'a>>
         ensures { IfOk result (λ command. Calls name.now command) }
     {
-        let Some(verb) = Verb::named(name) else {
-            return Err(ScriptFault::UnknownCommand(name));
-        };
+        let verb: Verb = name.parse().map_err(|_| ScriptFault::UnknownCommand(name))?;
         match (verb, rest) {
             (Verb::Task, [paper]) => Ok(Command::Task(PaperWord::read(heap, paper)?)),
-            (Verb::Open, [kind]) => Ok(Command::Open(KindWords::read(kind)?)),
+            (Verb::Open, [kind]) => Ok(Command::Open(kind_named(kind)?)),
             (Verb::Plan, [paper]) => Ok(Command::Plan(PaperWord::read(heap, paper)?)),
             (Verb::Proof, words) => {
-                let (set, rest) = SetWords::read(heap, words)?;
-                let [paper] = rest else {
+                let mut words = words.iter();
+                let set = SetWords::read(heap, &mut words)?;
+                let [paper] = words.as_slice() else {
                     return Err(ScriptFault::WrongWords(verb.usage()));
                 };
                 Ok(Command::Proof(set, PaperWord::read(heap, paper)?))
@@ -113,43 +117,19 @@ impl Command<'_> {
     }
 }
 
-/// The words of a text without blanks but line feeds, after those that are there already.
-fn at_feeds<'a>(text: &'a str, words: &mut Vec<&'a str>) -> Result<(), ScriptFault<'a>> {
-    for part in text.split('\n') {
-        if !part.is_empty() {
-            words.push(part)?;
-        }
-    }
-    Ok(())
+/// The words of a line, without its comment: they are parted by spaces, tabs, carriage returns and line feeds.
+fn words(heap: Global, line: &str) -> Result<Vec<&str>, AllocError> {
+    let text = line.split_once('#').map_or(line, |(text, _comment)| text);
+    text.split([' ', '\t', '\r', '\n'])
+        .filter(|word| !word.is_empty())
+        .collect(heap)
 }
 
-/// The same, for a text with carriage returns too.
-fn at_returns<'a>(text: &'a str, words: &mut Vec<&'a str>) -> Result<(), ScriptFault<'a>> {
-    for part in text.split('\r') {
-        at_feeds(part, words)?;
-    }
-    Ok(())
-}
-
-/// The same, for a text with tabs too.
-fn at_tabs<'a>(text: &'a str, words: &mut Vec<&'a str>) -> Result<(), ScriptFault<'a>> {
-    for part in text.split('\t') {
-        at_returns(part, words)?;
-    }
-    Ok(())
-}
-
-/// The words of a line, without its comment: they are parted by spaces, tabs and carriage returns.
-fn words(heap: Global, line: &str) -> Result<Vec<&str>, ScriptFault<'_>> {
-    let text = match line.split_once('#') {
-        Some((text, _)) => text,
-        None => line,
-    };
-    let mut words = Vec::new(heap);
-    for part in text.split(' ') {
-        at_tabs(part, &mut words)?;
-    }
-    Ok(words)
+/// The kind of cost that a word names.
+fn kind_named(word: &str) -> Result<KindWords, ScriptFault<'_>>
+    ensures { NameRead kind_name word.now result }
+{
+    word.parse().map_err(|_| ScriptFault::UnknownKind(word))
 }
 
 /// An operator number: decimal digits, and no sign.
@@ -157,8 +137,5 @@ fn operator(word: &str) -> Result<u16, ScriptFault<'_>> {
     if word.starts_with('+') {
         return Err(ScriptFault::NoNumber(word));
     }
-    match word.parse::<u16>() {
-        Ok(number) => Ok(number),
-        Err(_) => Err(ScriptFault::NoNumber(word)),
-    }
+    word.parse().map_err(|_| ScriptFault::NoNumber(word))
 }

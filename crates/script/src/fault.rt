@@ -1,61 +1,37 @@
 //! What is wrong with a line, and what would be right.
 use std::alloc::{AllocError, AllocFailed};
-use std::fmt;
+use thiserror::Error;
 
 /// Why a line is no command. It prints as what is wrong and what would be right.
-#[derive(Clone, Copy)]
+#[derive(Clone, Copy, Debug, Error)]
 pub enum ScriptFault<'a> {
     /// The line begins with no command's name.
+    #[error("unknown command {0}: write task, open, plan, proof, begin, step, finish, give-up or card")]
     UnknownCommand(&'a str),
     /// A command has too few or too many words; the text shows how it is written.
+    #[error("too few or too many words: write {0}")]
     WrongWords(&'static str),
     /// A word names no kind of cost.
+    #[error("unknown kind of cost {0}: write minutes, crew or steps, or two of them joined by a comma")]
     UnknownKind(&'a str),
     /// A word begins no set.
+    #[error("unknown set {0}: write list, diagram, formula, complement, meeting or joining")]
     UnknownSet(&'a str),
     /// Layers of a set stand too deep inside each other.
+    #[error("a set has too many layers: write at most 1000 inside each other")]
     DeepSet,
     /// A word is no operator number.
+    #[error("{0} is no operator number: write 0 to 65535")]
     NoNumber(&'a str),
     /// A paper's hexadecimal digits are odd in number, or one is none.
+    #[error("bad hexadecimal {0}: write hex: and an even number of digits 0 to 9 and a to f")]
     BadHex(&'a str),
     /// The line found no memory.
+    #[error("the line found no memory: write a shorter one")]
     NoMemory,
 }
 
-impl fmt::Display for ScriptFault<'_> {
-    fn fmt<W: fmt::Write>(&self, f: &mut fmt::Formatter<W>) -> fmt::Result {
-        match self {
-            ScriptFault::UnknownCommand(word) => write!(
-                f,
-                "unknown command {word}: write task, open, plan, proof, begin, step, finish, give-up or card"
-            ),
-            ScriptFault::WrongWords(usage) => write!(f, "too few or too many words: write {usage}"),
-            ScriptFault::UnknownKind(word) => write!(
-                f,
-                "unknown kind of cost {word}: write minutes, crew or steps, or two of them joined by a comma"
-            ),
-            ScriptFault::UnknownSet(word) => write!(
-                f,
-                "unknown set {word}: write list, diagram, formula, complement, meeting or joining"
-            ),
-            ScriptFault::DeepSet => write!(
-                f,
-                "a set has too many layers: write at most 1000 inside each other"
-            ),
-            ScriptFault::NoNumber(word) => write!(
-                f,
-                "{word} is no operator number: write 0 to 65535"
-            ),
-            ScriptFault::BadHex(word) => write!(
-                f,
-                "bad hexadecimal {word}: write hex: and an even number of digits 0 to 9 and a to f"
-            ),
-            ScriptFault::NoMemory => write!(f, "the line found no memory: write a shorter one"),
-        }
-    }
-}
-
+// Kept: both impls by hand, since a derived `From` keeps the `AllocError`, and the crate `hex` gives none where it found no memory.
 impl From<AllocError> for ScriptFault<'_> {
     fn from(_error: AllocError) -> Self {
         ScriptFault::NoMemory
@@ -67,3 +43,7 @@ impl<T: Drop> From<AllocFailed<T>> for ScriptFault<'_> {
         ScriptFault::NoMemory
     }
 }
+
+/// A word names nothing of its sort.
+#[derive(Clone, Copy, Debug, PartialEq, Eq)]
+pub struct NoName;

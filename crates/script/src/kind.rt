@@ -1,10 +1,10 @@
 //! Kinds of cost, as a line names them.
 ghost use Rattle.std.specs.Prelude.{Some};
-ghost use Rattle.script.specs.Names.{Names, measure_name, kind_name};
-ghost use Rattle.script.specs.Answers.{KindRead};
+ghost use Rattle.script.specs.Names.{NameRead, measure_name, kind_name};
 
-use crate::fault::ScriptFault;
+use crate::fault::NoName;
 use std::fmt;
+use std::str::FromStr;
 
 /// One number of a cost.
 #[derive(Clone, Copy)]
@@ -14,16 +14,18 @@ pub enum Measure {
     Steps,
 }
 
-impl Measure {
+impl FromStr for Measure {
+    type Err = NoName;
+
+    ghost from_str_gives = { NameRead measure_name };
+
     /// The measure of this name.
-    fn named(word: &str) -> Option<Measure>
-        ensures { Names measure_name word.now result }
-    {
+    fn from_str(word: &str) -> Result<Measure, NoName> {
         match word {
-            "minutes" => Some(Measure::Minutes),
-            "crew" => Some(Measure::Crew),
-            "steps" => Some(Measure::Steps),
-            _ => None,
+            "minutes" => Ok(Measure::Minutes),
+            "crew" => Ok(Measure::Crew),
+            "steps" => Ok(Measure::Steps),
+            _ => Err(NoName),
         }
     }
 }
@@ -47,28 +49,16 @@ pub enum KindWords {
     Two(Measure, Measure),
 }
 
-impl KindWords {
-    /// The kind that a word names.
-    pub(crate) fn read(word: &str) -> Result<KindWords, ScriptFault<'_>>
-        ensures { KindRead word.now result }
-    {
-        match KindWords::named(word) {
-            Some(kind) => Ok(kind),
-            None => Err(ScriptFault::UnknownKind(word)),
-        }
-    }
+impl FromStr for KindWords {
+    type Err = NoName;
+
+    ghost from_str_gives = { NameRead kind_name };
 
     /// The kind of this name: a measure's, or two joined by a comma.
-    fn named(word: &str) -> Option<KindWords>
-        ensures { Names kind_name word.now result }
-    {
+    fn from_str(word: &str) -> Result<KindWords, NoName> {
         match word.split_once(',') {
-            Some((first, second)) => {
-                let first = Measure::named(first)?;
-                let second = Measure::named(second)?;
-                Some(KindWords::Two(first, second))
-            }
-            None => Some(KindWords::One(Measure::named(word)?)),
+            Some((first, second)) => Ok(KindWords::Two(first.parse()?, second.parse()?)),
+            None => Ok(KindWords::One(word.parse()?)),
         }
     }
 }

@@ -3,7 +3,6 @@
 
 pub mod command;
 pub mod fault;
-mod hex;
 pub mod kind;
 pub mod paper;
 pub mod set;

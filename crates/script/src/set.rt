@@ -1,10 +1,13 @@
 //! Sets, as a line describes them: in prefix form.
-ghost use Rattle.script.specs.Names.{Names, set_name};
+ghost use Rattle.script.specs.Names.{NameRead, set_name};
 
-use crate::fault::ScriptFault;
+use crate::fault::{NoName, ScriptFault};
 use crate::paper::PaperWord;
 use std::alloc::Global;
+use std::slice;
+use std::str::FromStr;
 
+// Kept: words of the language, apart from the sets that they stand for: this crate reads lines and knows no set.
 /// The sorts of papers that hold a set.
 #[derive(Clone, Copy)]
 pub enum SetPaper {
@@ -21,25 +24,11 @@ pub enum Pairing {
 }
 
 /// A set: a paper that holds one, or a layer over other sets.
+#[derive(Drop)]
 pub enum SetWords<'a> {
     Paper(SetPaper, PaperWord<'a>),
     Complement(Box<SetWords<'a>>),
     Pair(Pairing, Box<SetWords<'a>>, Box<SetWords<'a>>),
-}
-
-impl Drop for SetWords<'_> {
-    fn drop(self) {
-        match self {
-            SetWords::Paper(_, _) => {}
-            SetWords::Complement(inner) => {
-                let _inner = Box::into_inner(inner);
-            }
-            SetWords::Pair(_, first, second) => {
-                let _first = Box::into_inner(first);
-                let _second = Box::into_inner(second);
-            }
-        }
-    }
 }
 
 /// The first words of sets.
@@ -50,25 +39,24 @@ enum SetName {
     Pair(Pairing),
 }
 
-impl SetName {
+impl FromStr for SetName {
+    type Err = NoName;
+
+    ghost from_str_gives = { NameRead set_name };
+
     /// What a word that begins a set stands for.
-    fn named(word: &str) -> Option<SetName>
-        ensures { Names set_name word.now result }
-    {
+    fn from_str(word: &str) -> Result<SetName, NoName> {
         match word {
-            "list" => Some(SetName::Paper(SetPaper::List)),
-            "diagram" => Some(SetName::Paper(SetPaper::Diagram)),
-            "formula" => Some(SetName::Paper(SetPaper::Formula)),
-            "complement" => Some(SetName::Complement),
-            "meeting" => Some(SetName::Pair(Pairing::Meeting)),
-            "joining" => Some(SetName::Pair(Pairing::Joining)),
-            _ => None,
+            "list" => Ok(SetName::Paper(SetPaper::List)),
+            "diagram" => Ok(SetName::Paper(SetPaper::Diagram)),
+            "formula" => Ok(SetName::Paper(SetPaper::Formula)),
+            "complement" => Ok(SetName::Complement),
+            "meeting" => Ok(SetName::Pair(Pairing::Meeting)),
+            "joining" => Ok(SetName::Pair(Pairing::Joining)),
+            _ => Err(NoName),
         }
     }
 }
-
-/// A set, and the words that follow it.
-type Parsed<'a, 'w> = (SetWords<'a>, &'w [&'a str]);
 
 /// The most levels of a set: 1,000 layers inside each other, and a paper.
 const DEEPEST: u16 = 1_001;
@@ -77,49 +65,46 @@ const DEEPEST: u16 = 1_001;
 const USAGE: &str =
     "list PAPER, diagram PAPER, formula PAPER, complement SET, meeting SET SET or joining SET SET";
 
+/// The next word of a set.
+fn next<'a>(words: &mut slice::Iter<'_, &'a str>) -> Result<&'a str, ScriptFault<'a>> {
+    words.next().copied().ok_or(ScriptFault::WrongWords(USAGE))
+}
+
 impl<'a> SetWords<'a> {
-    /// The set that the words begin with, and the words that follow it.
-    pub(crate) fn read<'w>(
+    /// The set that the words begin with; the words that follow it are left.
+    pub(crate) fn read(
         heap: Global,
-        words: &'w [&'a str],
-    ) -> Result<Parsed<'a, 'w>, ScriptFault<'a>> {
+        words: &mut slice::Iter<'_, &'a str>,
+    ) -> Result<SetWords<'a>, ScriptFault<'a>> {
         SetWords::within(heap, words, DEEPEST)
     }
 
     /// The same, for a set of at most so many levels.
-    fn within<'w>(
+    fn within(
         heap: Global,
-        words: &'w [&'a str],
+        words: &mut slice::Iter<'_, &'a str>,
         depth: u16,
-    ) -> Result<Parsed<'a, 'w>, ScriptFault<'a>> {
-        let [name, rest @ ..] = words else {
-            return Err(ScriptFault::WrongWords(USAGE));
-        };
-        let Some(sort) = SetName::named(name) else {
-            return Err(ScriptFault::UnknownSet(name));
-        };
+    ) -> Result<SetWords<'a>, ScriptFault<'a>> {
+        let name = next(words)?;
+        let sort = name.parse().map_err(|_| ScriptFault::UnknownSet(name))?;
         if depth == 0 {
             return Err(ScriptFault::DeepSet);
         }
         match sort {
             SetName::Paper(sort) => {
-                let [paper, rest @ ..] = rest else {
-                    return Err(ScriptFault::WrongWords(USAGE));
-                };
-                Ok((SetWords::Paper(sort, PaperWord::read(heap, paper)?), rest))
+                let paper = PaperWord::read(heap, next(words)?)?;
+                Ok(SetWords::Paper(sort, paper))
             }
             SetName::Complement => {
-                let (inner, rest) = SetWords::within(heap, rest, depth - 1)?;
-                Ok((SetWords::Complement(Box::new(heap, inner)?), rest))
+                let inner = SetWords::within(heap, words, depth - 1)?;
+                Ok(SetWords::Complement(Box::new(heap, inner)?))
             }
             SetName::Pair(pairing) => {
-                let (first, rest) = SetWords::within(heap, rest, depth - 1)?;
-                let (second, rest) = SetWords::within(heap, rest, depth - 1)?;
+                let first = SetWords::within(heap, words, depth - 1)?;
+                let second = SetWords::within(heap, words, depth - 1)?;
                 let first = Box::new(heap, first)?;
-                Ok((
-                    SetWords::Pair(pairing, first, Box::new(heap, second)?),
-                    rest,
-                ))
+                let second = Box::new(heap, second)?;
+                Ok(SetWords::Pair(pairing, first, second))
             }
         }
     }

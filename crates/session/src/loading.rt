@@ -1,15 +1,20 @@
 //! The papers of a line, loaded from their files, and the set that they make.
 use crate::stop::Stop;
-use mixedsets::layered::LayeredSet;
+use bumpalo::Bump;
+use mixedsets::layered::{Connective, LayeredSet};
 use mixedsets::paper::PaperSet;
 use script::paper::PaperWord;
 use script::set::{Pairing, SetPaper, SetWords};
 use setpapers::fault::SetFault;
-use std::alloc::AllocFailed;
 use std::fs;
+use thiserror::Error;
 
-/// The bytes of a file.
-fn load_file(rt: &HostRuntime, path: &str) -> Result<Vec<u8>, Stop> {
+/// The bytes of a paper.
+pub(crate) fn load(rt: &HostRuntime, word: PaperWord<'_>) -> Result<Vec<u8>, Stop> {
+    let path = match word {
+        PaperWord::Bytes(bytes) => return Ok(bytes),
+        PaperWord::Path(path) => path,
+    };
     match fs::read(rt, path) {
         Ok(bytes) => Ok(bytes),
         Err(error) => Err(Stop::Line(format!(in rt.alloc();
@@ -18,49 +23,19 @@ fn load_file(rt: &HostRuntime, path: &str) -> Result<Vec<u8>, Stop> {
     }
 }
 
-/// The bytes of a paper.
-pub(crate) fn load(rt: &HostRuntime, word: PaperWord<'_>) -> Result<Vec<u8>, Stop> {
-    match word {
-        PaperWord::Bytes(bytes) => Ok(bytes),
-        PaperWord::Path(path) => load_file(rt, path),
-    }
-}
-
-/// The bytes of a paper of a set.
-fn load_part(rt: &HostRuntime, word: &PaperWord<'_>) -> Result<Vec<u8>, Stop> {
-    match word {
-        PaperWord::Bytes(bytes) => Ok(bytes.clone()?),
-        PaperWord::Path(path) => load_file(rt, path),
-    }
-}
-
 /// Why a set cannot be made.
-#[derive(Drop)]
+#[derive(Debug, Drop, Error)]
 pub(crate) enum Unmade {
-    Refused(SetFault),
-    Stopped(Stop),
-}
-
-impl From<SetFault> for Unmade {
-    fn from(fault: SetFault) -> Self {
-        Unmade::Refused(fault)
-    }
-}
-
-impl<T: Drop> From<AllocFailed<T>> for Unmade {
-    fn from(_refused: AllocFailed<T>) -> Self {
-        Unmade::Stopped(Stop::NoMemory)
-    }
-}
-
-impl From<Stop> for Unmade {
-    fn from(stop: Stop) -> Self {
-        Unmade::Stopped(stop)
-    }
+    /// One of its papers is refused.
+    #[error(transparent)]
+    Refused(#[from] SetFault),
+    /// The run ends.
+    #[error(transparent)]
+    Stopped(#[from] Stop),
 }
 
 /// The set of one paper.
-fn paper_set(sort: SetPaper, width: u8, paper: Vec<u8>) -> Result<PaperSet, SetFault> {
+fn paper_set(sort: SetPaper, width: u8, paper: &[u8]) -> Result<PaperSet<'_>, SetFault> {
     match sort {
         SetPaper::List => PaperSet::list(width, paper),
         SetPaper::Diagram => PaperSet::diagram(width, paper),
@@ -68,36 +43,35 @@ fn paper_set(sort: SetPaper, width: u8, paper: Vec<u8>) -> Result<PaperSet, SetF
     }
 }
 
-/// The set of a line, its papers read at a width; the first paper that is refused, from left to right, decides.
-/// It has at most so many layers inside each other.
-pub(crate) fn load_set(
+/// The set of a line, its papers read at a width where `papers` keeps them; the first paper that is refused, from left to right, decides.
+pub(crate) fn load_set<'p>(
     rt: &HostRuntime,
+    papers: &'p Bump,
     width: u8,
-    set: &SetWords<'_>,
-    depth: u16,
-) -> Result<LayeredSet, Unmade> {
-    if depth == 0 {
-        return Err(Unmade::Stopped(Stop::NoMemory));
-    }
+    set: SetWords<'_>,
+) -> Result<LayeredSet<'p>, Unmade> {
     let heap = rt.alloc();
     match set {
         SetWords::Paper(sort, word) => {
-            let paper = load_part(rt, word)?;
-            Ok(LayeredSet::Paper(paper_set(*sort, width, paper)?))
+            let paper = papers
+                .try_alloc_slice_copy(&load(rt, word)?)
+                .map_err(Stop::from)?;
+            Ok(LayeredSet::Paper(paper_set(sort, width, paper)?))
         }
         SetWords::Complement(inner) => {
-            let inner = load_set(rt, width, inner, depth - 1)?;
-            Ok(LayeredSet::Complement(Box::new(heap, inner)?))
+            let inner = load_set(rt, papers, width, Box::into_inner(inner))?;
+            Ok(LayeredSet::Complement(Box::new(heap, inner).map_err(Stop::from)?))
         }
         SetWords::Pair(pairing, first, second) => {
-            let first = load_set(rt, width, first, depth - 1)?;
-            let second = load_set(rt, width, second, depth - 1)?;
-            let first = Box::new(heap, first)?;
-            let second = Box::new(heap, second)?;
-            match pairing {
-                Pairing::Meeting => Ok(LayeredSet::Meeting(first, second)),
-                Pairing::Joining => Ok(LayeredSet::Joining(first, second)),
-            }
+            let first = load_set(rt, papers, width, Box::into_inner(first))?;
+            let second = load_set(rt, papers, width, Box::into_inner(second))?;
+            let first = Box::new(heap, first).map_err(Stop::from)?;
+            let second = Box::new(heap, second).map_err(Stop::from)?;
+            let connective = match pairing {
+                Pairing::Meeting => Connective::Meeting,
+                Pairing::Joining => Connective::Joining,
+            };
+            Ok(LayeredSet::Pair(connective, first, second))
         }
     }
 }

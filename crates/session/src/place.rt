@@ -1,5 +1,5 @@
 //! The task place of a run.
-use crate::printing::print_task_fault;
+use crate::printing::print_fault;
 use crate::stop::Stop;
 use task::place::Task;
 
@@ -34,11 +34,12 @@ impl Place {
                 )?;
                 Ok(())
             }
-            Err(fault) => print_task_fault(rt, &fault),
+            Err(fault) => print_fault(rt, "task", &fault),
         }
     }
 
     /// A copy of the task for a card of its own: the same paper read again.
+    // Kept: no `Clone` of a task, whose copied vectors would not have the room that its type promises.
     pub(crate) fn copy(&self, rt: &HostRuntime) -> Result<Task, Stop> {
         let mut task = Task::new(rt.alloc())?;
         let _ = task.read(&self.paper);

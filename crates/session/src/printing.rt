@@ -2,65 +2,65 @@
 use crate::stop::Stop;
 use card::card::{Card, Verdict};
 use costs::cost::Cost;
-use judge::fault::ProofFault;
-use plans::verdict::{PlanFault, Reached};
-use setpapers::fault::SetFault;
+use plans::verdict::Reached;
+use records::Fault;
+use std::fmt;
 use std::fmt::Display;
-use task::faults::TaskFault;
 
-/// A refused task.
-pub(crate) fn print_task_fault(rt: &HostRuntime, fault: &TaskFault) -> Result<(), Stop> {
-    let number = fault.number();
-    let layer = fault.layer();
-    let place = fault.place();
-    println!(rt; "task refused number={number} layer={layer} place={place}: {fault}")?;
+/// A refusal: the fault's number, its layer and its place.
+#[derive(Clone, Copy)]
+struct Refused<'a, F>(&'a F);
+
+impl<F: Fault> Display for Refused<'_, F> {
+    fn fmt<W: fmt::Write>(&self, f: &mut fmt::Formatter<W>) -> fmt::Result {
+        let number = self.0.number();
+        let layer = self.0.layer();
+        let place = self.0.place();
+        write!(f, "refused number={number} layer={layer} place={place}")
+    }
+}
+
+/// A refused paper or step, and its fault in words.
+pub(crate) fn print_fault<F: Fault + Display>(
+    rt: &HostRuntime,
+    what: &str,
+    fault: &F,
+) -> Result<(), Stop> {
+    println!(rt; "{what} {}: {fault}", Refused(fault))?;
     Ok(())
 }
 
-/// A refused set.
-pub(crate) fn print_set_fault(rt: &HostRuntime, fault: &SetFault) -> Result<(), Stop> {
-    let number = fault.number();
-    let layer = fault.layer();
-    let place = fault.place();
-    println!(rt; "set refused number={number} layer={layer} place={place}: {fault}")?;
-    Ok(())
+/// A verdict: where an accepted plan or walk leads, that a proof is accepted, or the refusal.
+#[derive(Clone, Copy)]
+struct Shown<'a, C>(&'a Verdict<C>);
+
+impl<C: Display> Display for Shown<'_, C> {
+    fn fmt<W: fmt::Write>(&self, f: &mut fmt::Formatter<W>) -> fmt::Result {
+        match self.0 {
+            Verdict::Plan(Ok(Reached { state, steps, cost })) => {
+                write!(f, "accepted state={state} steps={steps} cost={cost}")
+            }
+            Verdict::Proof(Ok(())) => f.write_str("accepted"),
+            Verdict::Plan(Err(fault)) => write!(f, "{}", Refused(fault)),
+            Verdict::Proof(Err(fault)) => write!(f, "{}", Refused(fault)),
+        }
+    }
 }
 
-/// A judged plan, step or finish.
+/// A judged plan, step, finish or proof.
 pub(crate) fn print_judged<C: Cost + Display>(
     rt: &HostRuntime,
     what: &str,
-    answer: &Result<Reached<C>, PlanFault>,
+    verdict: &Verdict<C>,
 ) -> Result<(), Stop> {
-    match answer {
-        Ok(reached) => {
-            let state = reached.state;
-            let steps = reached.steps;
-            let cost = reached.cost;
-            println!(rt; "{what} accepted state={state} steps={steps} cost={cost}")?;
-        }
-        Err(fault) => {
-            let number = fault.number();
-            let layer = fault.layer();
-            let place = fault.place();
-            println!(rt; "{what} refused number={number} layer={layer} place={place}: {fault}")?;
-        }
+    match verdict {
+        Verdict::Plan(Err(fault)) => print_fault(rt, what, fault),
+        Verdict::Proof(Err(fault)) => print_fault(rt, what, fault),
+        Verdict::Plan(Ok(_)) | Verdict::Proof(Ok(())) => Ok(println!(rt;
+            "{what} {}",
+            Shown(verdict)
+        )?),
     }
-    Ok(())
-}
-
-/// A judged proof.
-pub(crate) fn print_ruled(rt: &HostRuntime, answer: &Result<(), ProofFault>) -> Result<(), Stop> {
-    match answer {
-        Ok(()) => println!(rt; "proof accepted")?,
-        Err(fault) => {
-            let number = fault.number();
-            let layer = fault.layer();
-            let place = fault.place();
-            println!(rt; "proof refused number={number} layer={layer} place={place}: {fault}")?;
-        }
-    }
-    Ok(())
 }
 
 /// What a card shows.
@@ -71,35 +71,9 @@ pub(crate) fn print_card<C: Cost + Display>(rt: &HostRuntime, card: &Card<C>) ->
     }
     let mark = if card.impossible() { "yes" } else { "no" };
     print!(rt; " impossible={mark} latest=")?;
-    print_latest(rt, card.latest())
-}
-
-/// The latest verdict, and the end of the line.
-fn print_latest<C: Cost + Display>(
-    rt: &HostRuntime,
-    latest: Option<Verdict<C>>,
-) -> Result<(), Stop> {
-    match latest {
+    match card.latest() {
+        Some(verdict) => println!(rt; "{}", Shown(&verdict))?,
         None => println!(rt; "none")?,
-        Some(Verdict::Reached(reached)) => {
-            let state = reached.state;
-            let steps = reached.steps;
-            let cost = reached.cost;
-            println!(rt; "accepted state={state} steps={steps} cost={cost}")?;
-        }
-        Some(Verdict::Impossible) => println!(rt; "accepted")?,
-        Some(Verdict::PlanRefused(fault)) => {
-            let number = fault.number();
-            let layer = fault.layer();
-            let place = fault.place();
-            println!(rt; "refused number={number} layer={layer} place={place}")?;
-        }
-        Some(Verdict::ProofRefused(fault)) => {
-            let number = fault.number();
-            let layer = fault.layer();
-            let place = fault.place();
-            println!(rt; "refused number={number} layer={layer} place={place}")?;
-        }
     }
     Ok(())
 }

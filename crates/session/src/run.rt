@@ -1,110 +1,110 @@
 //! Works a whole script.
-use crate::lines::Lines;
-use crate::loading::load;
 use crate::place::Place;
 use crate::stop::Stop;
-use crate::working::{read_command, work_card};
+use crate::table::{OpenCard, Table};
+use card::card::Card;
+use card::desk::Desk;
+use costs::cost::Cost;
 use costs::kinds::{Crew, Minutes, Pair, Steps};
-use script::command::Command;
 use script::kind::{KindWords, Measure};
-use std::io::BufRead;
+use std::fmt::Display;
+use std::io;
+use std::io::{BufRead, BufReader, Read};
+use std::process::ExitCode;
 
-/// A command that wants a card, before one is open.
-fn no_card(rt: &HostRuntime) -> Result<Option<KindWords>, Stop> {
-    Err(Stop::turn(rt.alloc(), "no card is open: write open KIND first"))
+/// A run: the lines of its script, how many were read, and its task place.
+#[derive(Drop)]
+struct Run<'r, R> {
+    rt: &'r HostRuntime,
+    lines: io::Lines<R>,
+    // Kept: lent, since the end of a run that fails is told with its line after the run is gone.
+    count: &'r mut u64,
+    place: Place,
 }
 
-/// Works one command before a card is open; answers the kind of a card, where the command opens one.
-fn work_command(
-    rt: &HostRuntime,
-    place: &mut Place,
-    command: Command<'_>,
-) -> Result<Option<KindWords>, Stop> {
-    match command {
-        Command::Task(word) => {
-            place.read(rt, load(rt, word)?)?;
-            Ok(None)
-        }
-        Command::Open(kind) => Ok(Some(kind)),
-        Command::Plan(_word) => no_card(rt),
-        Command::Proof(_set, _word) => no_card(rt),
-        Command::Begin | Command::Step(_) | Command::Finish | Command::GiveUp | Command::Card =>
-            no_card(rt),
-    }
-}
-
-/// Works what was read of one line before a card is open.
-fn work_read(
-    rt: &HostRuntime,
-    place: &mut Place,
-    read: Option<Command<'_>>,
-) -> Result<Option<KindWords>, Stop> {
-    match read {
-        Some(command) => work_command(rt, place, command),
-        None => Ok(None),
-    }
-}
-
-/// Works the lines before a card is open; answers the kind of the first card, if there is one.
-fn before_cards<R: BufRead>(
-    rt: &HostRuntime,
-    lines: &mut Lines<R>,
-    place: &mut Place,
-) -> Result<Option<KindWords>, Stop> {
-    for _ in 0..u64::MAX {
-        let Some(line) = lines.next(rt.alloc())? else {
-            return Ok(None);
+impl<R: BufRead + Drop> Run<'_, R> {
+    /// Works the lines that follow, with this card or none open; answers the kind of the next card, if there is one.
+    fn work_lines<C: Cost + Display>(
+        &mut self,
+        card: Option<OpenCard<C>>,
+    ) -> Result<Option<KindWords>, Stop> {
+        let mut table = Table {
+            rt: self.rt,
+            place: &mut self.place,
+            card,
         };
-        if let Some(kind) = work_read(rt, place, read_command(rt, line.as_str())?)? {
-            return Ok(Some(kind));
+        for line in &mut self.lines {
+            *self.count = self.count.saturating_add(1);
+            let next = table.work_line(line?.as_str())?;
+            if next.is_some() {
+                return Ok(next);
+            }
+        }
+        Ok(None)
+    }
+
+    /// Opens a card and works the lines that follow.
+    fn work_card<C: Cost + Display>(&mut self) -> Result<Option<KindWords>, Stop> {
+        let card: Card<C> = Card::open(self.place.copy(self.rt)?);
+        self.work_lines(Some(OpenCard(Desk::Idle(card))))
+    }
+
+    /// The same, for a card whose cost is a pair, the first of which is in `A`.
+    fn work_pair<A: Cost + Display>(&mut self, second: Measure) -> Result<Option<KindWords>, Stop> {
+        match second {
+            Measure::Minutes => self.work_card::<Pair<A, Minutes>>(),
+            Measure::Crew => self.work_card::<Pair<A, Crew>>(),
+            Measure::Steps => self.work_card::<Pair<A, Steps>>(),
         }
     }
-    Ok(None)
-}
 
-/// Works the lines of a card whose cost is a pair, the first of which is in `A`.
-fn work_pair<A: costs::cost::Cost + std::fmt::Display, R: BufRead>(
-    rt: &HostRuntime,
-    lines: &mut Lines<R>,
-    place: &mut Place,
-    second: Measure,
-) -> Result<Option<KindWords>, Stop> {
-    match second {
-        Measure::Minutes => work_card::<Pair<A, Minutes>, R>(rt, lines, place),
-        Measure::Crew => work_card::<Pair<A, Crew>, R>(rt, lines, place),
-        Measure::Steps => work_card::<Pair<A, Steps>, R>(rt, lines, place),
-    }
-}
-
-/// Opens a card of a kind and works the lines that follow.
-fn work_kind<R: BufRead>(
-    rt: &HostRuntime,
-    lines: &mut Lines<R>,
-    place: &mut Place,
-    kind: KindWords,
-) -> Result<Option<KindWords>, Stop> {
-    println!(rt; "open {kind}")?;
-    match kind {
-        KindWords::One(Measure::Minutes) => work_card::<Minutes, R>(rt, lines, place),
-        KindWords::One(Measure::Crew) => work_card::<Crew, R>(rt, lines, place),
-        KindWords::One(Measure::Steps) => work_card::<Steps, R>(rt, lines, place),
-        KindWords::Two(Measure::Minutes, second) => {
-            work_pair::<Minutes, R>(rt, lines, place, second)
-        }
-        KindWords::Two(Measure::Crew, second) => work_pair::<Crew, R>(rt, lines, place, second),
-        KindWords::Two(Measure::Steps, second) => work_pair::<Steps, R>(rt, lines, place, second),
-    }
-}
-
-/// Works every line of the script, and prints a line for each command.
-pub fn run<R: BufRead>(rt: &HostRuntime, lines: &mut Lines<R>) -> Result<(), Stop> {
-    let mut place = Place::new(rt)?;
-    let mut kind = before_cards(rt, lines, &mut place)?;
-    for _ in 0..u64::MAX {
+    /// The same, for a card of a kind.
+    fn work_kind(&mut self, kind: KindWords) -> Result<Option<KindWords>, Stop> {
+        println!(self.rt; "open {kind}")?;
+        // Kept: two matches, three arms for each place of a pair; one match on a measure would want a trait of visitors with three impls.
         match kind {
-            None => return Ok(()),
-            Some(open) => kind = work_kind(rt, lines, &mut place, open)?,
+            KindWords::One(Measure::Minutes) => self.work_card::<Minutes>(),
+            KindWords::One(Measure::Crew) => self.work_card::<Crew>(),
+            KindWords::One(Measure::Steps) => self.work_card::<Steps>(),
+            KindWords::Two(Measure::Minutes, second) => self.work_pair::<Minutes>(second),
+            KindWords::Two(Measure::Crew, second) => self.work_pair::<Crew>(second),
+            KindWords::Two(Measure::Steps, second) => self.work_pair::<Steps>(second),
         }
+    }
+}
+
+/// Works every line of a script, and prints a line for each command; counts the lines as they are read.
+fn work_script<R: BufRead + Drop>(
+    rt: &HostRuntime,
+    script: R,
+    count: &mut u64,
+) -> Result<(), Stop> {
+    let mut run = Run {
+        rt,
+        lines: script.lines(rt.alloc()),
+        count,
+        place: Place::new(rt)?,
+    };
+    let mut next = run.work_lines::<Minutes>(None)?;
+    // Kept: counted, since a `while let` wants a proof that each card takes a line, in the contracts of four functions.
+    for _ in 0..u64::MAX {
+        let Some(kind) = next else {
+            break;
+        };
+        next = run.work_kind(kind)?;
     }
     Ok(())
+}
+
+/// Works a script, and prints a line for each command; where the run ends early, says on standard error at which line and why.
+pub fn work<R: Read + Drop>(rt: &HostRuntime, program: &str, script: R) -> io::Result<ExitCode> {
+    let script = BufReader::new(rt.alloc(), script)?;
+    let mut count = 0;
+    match work_script(rt, script, &mut count) {
+        Ok(()) => Ok(ExitCode::SUCCESS),
+        Err(stop) => {
+            eprintln!(rt; "{program}: line {count}: {stop}")?;
+            Ok(ExitCode::FAILURE)
+        }
+    }
 }

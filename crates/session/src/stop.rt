@@ -1,61 +1,35 @@
 //! Why a run ends before its script does.
 use script::fault::ScriptFault;
-use std::alloc::{AllocError, AllocFailed, Global};
-use std::{fmt, io};
+use std::alloc::{AllocError, Global};
+use std::io;
+use thiserror::Error;
 
-/// What ends a run.
-#[derive(Drop)]
+/// What ends a run. It prints as what is wrong and what would be right.
+#[derive(Debug, Drop, Error)]
 pub enum Stop {
-    /// A line is no command, or its card cannot take it: what is wrong, and what would be right.
+    /// A line is no command, or names a file that cannot be read.
+    #[error("{0}")]
     Line(String),
-    /// A file, a line or the output cannot be read or written.
-    Io(io::Error),
+    /// The command wants a card, and none is open.
+    #[error("no card is open: write open KIND first")]
+    NoCard,
+    /// The command wants a walk, and none is under way.
+    #[error("no walk is under way: write begin first")]
+    NoWalk,
+    /// The command wants a card at rest, and a walk is under way.
+    #[error("a walk is under way: write step, finish, give-up or card")]
+    Walking,
+    /// A line cannot be read, or the output cannot be written.
+    #[error(transparent)]
+    Io(#[from] io::Error),
     /// There is no memory.
-    NoMemory,
-}
-
-impl From<AllocError> for Stop {
-    fn from(_error: AllocError) -> Self {
-        Stop::NoMemory
-    }
-}
-
-impl<T: Drop> From<AllocFailed<T>> for Stop {
-    fn from(_refused: AllocFailed<T>) -> Self {
-        Stop::NoMemory
-    }
-}
-
-impl From<io::Error> for Stop {
-    fn from(error: io::Error) -> Self {
-        Stop::Io(error)
-    }
-}
-
-impl fmt::Display for Stop {
-    fn fmt<W: fmt::Write>(&self, f: &mut fmt::Formatter<W>) -> fmt::Result {
-        match self {
-            Stop::Line(text) => write!(f, "{text}"),
-            Stop::Io(error) => write!(f, "{error}"),
-            Stop::NoMemory => f.write_str("there is no memory left: work a smaller script"),
-        }
-    }
+    #[error("there is no memory left: work a smaller script")]
+    NoMemory(#[from(alloc)] AllocError),
 }
 
 impl Stop {
     /// A line that is no command.
-    pub(crate) fn fault(heap: Global, fault: &ScriptFault<'_>) -> Stop {
-        match format!(in heap; "{fault}") {
-            Ok(text) => Stop::Line(text),
-            Err(_) => Stop::NoMemory,
-        }
-    }
-
-    /// A line that the card cannot take as it stands.
-    pub(crate) fn turn(heap: Global, text: &str) -> Stop {
-        match String::from_str(heap, text) {
-            Ok(text) => Stop::Line(text),
-            Err(_) => Stop::NoMemory,
-        }
+    pub(crate) fn line(heap: Global, fault: &ScriptFault<'_>) -> Stop {
+        format!(in heap; "{fault}").map_or_else(Stop::from, Stop::Line)
     }
 }

@@ -2,29 +2,33 @@
 use Rattle.std.proofs.Common.{◌≡◌, ℕ, ◌+◌, ◌<◌, true, ◌≢◌, List, length, get_or, set, sym, refl, ap, ◌∙◌, ap₂, arith, below_more}
 use Rattle.std.proofs.lemmas.List.{get_or-set_same, get_or-set_other}
 use Rattle.logic.specs.declared.truth.Truth.{Truth}
-use Rattle.sets.specs.declared.answer.Answer.{Answer}
-use Rattle.sets.specs.declared.answer.Answer.TheVariants.{Inside, Outside}
+use Rattle.logic.specs.declared.truth.Truth.TheVariants.{True as Inside, False as Outside}
+use Rattle.setpapers.specs.declared.entry.Child.{Child}
 use Rattle.setpapers.specs.declared.entry.Entry.{Entry}
 use Rattle.setpapers.specs.Rows.{all, all_at}
 use Rattle.setpapers.specs.Decisions.{out, inn, pick, answers, Decision}
 use Rattle.setpapers.specs.Diagrams.{child, decision_at, lawful}
-use Rattle.setpapers.specs.DiagramLaws.{low_below, high_below, child_so, decision_node}
+use Rattle.setpapers.specs.DiagramLaws.{Under, low_below, high_below, child_so, decision_node}
 
 -- the answers of the entries below i
-abbrev pub Answered : (ℕ → Truth) → (ℕ → Entry) → List Answer → ℕ → Type 0
-Answered ρ e row i = (j : ℕ) → j < i → get_or row j Inside ≡ answers ρ (decision_at e j)
+abbrev pub Answered : (ℕ → Truth) → (ℕ → Entry) → List Truth → ℕ → Type 0
+Answered ρ e row i = (j : ℕ) → j < i → get_or row j Outside ≡ answers ρ (decision_at e j)
 
-module _ (w : ℕ) (e : ℕ → Entry) (n : ℕ) (fine : all (lawful w e) n ≡ true) (ρ : ℕ → Truth) (row : List Answer) (i : ℕ) where
-  answered_child : (c : ℕ) → Answered ρ e row i → c < i + 2 → child Outside Inside (λ j. get_or row j Inside) c ≡ answers ρ (child out inn (decision_at e) c)
-  answered_child c h l = child_so (λ (a : Answer) (d : Decision). a ≡ answers ρ d) Outside Inside out inn (λ j. get_or row j Inside) (decision_at e) i c refl refl h l
+module _ (w : ℕ) (e : ℕ → Entry) (n : ℕ) (fine : all (lawful w e) n ≡ true) (ρ : ℕ → Truth) (row : List Truth) (i : ℕ) where
+  answered_child : (c : Child) → Answered ρ e row i → Under i c → child Outside Inside (λ j. get_or row j Outside) c ≡ answers ρ (child out inn (decision_at e) c)
+  answered_child c h l = child_so (λ (a : Truth) (d : Decision). a ≡ answers ρ d) Outside Inside out inn (λ j. get_or row j Outside) (decision_at e) i c refl refl h l
 
-  pub answered_more : (x : Entry) (r : Answer) → x ≡ e i → i < n → i < length row → Answered ρ e row i
-      → r ≡ pick (ρ x.variable) (child Outside Inside (λ j. get_or row j Inside) x.low) (child Outside Inside (λ j. get_or row j Inside) x.high)
-      → Answered ρ e (set row i r) (i + 1)
-  answered_more x r is hi hl below here =
-      below_more (λ j. get_or (set row i r) j Inside ≡ answers ρ (decision_at e j)) i
-      (λ j h. let ne : j ≢ i = omega arith in get_or-set_other row i j r Inside ne ∙ below j h)
-      (get_or-set_same row i r Inside hl ∙ here
-      ∙ ap (λ (y : Entry). pick (ρ y.variable) (child Outside Inside (λ j. get_or row j Inside) y.low) (child Outside Inside (λ j. get_or row j Inside) y.high)) is
+  -- what an entry answers, where those below it are answered
+  pub answered_here : (x : Entry) (r : Truth) → x ≡ e i → i < n → Answered ρ e row i
+      → r ≡ pick (ρ x.variable) (child Outside Inside (λ j. get_or row j Outside) x.low) (child Outside Inside (λ j. get_or row j Outside) x.high) → r ≡ answers ρ (decision_at e i)
+  answered_here x r is hi below here =
+      here ∙ ap (λ (y : Entry). pick (ρ y.variable) (child Outside Inside (λ j. get_or row j Outside) y.low) (child Outside Inside (λ j. get_or row j Outside) y.high)) is
       ∙ ap₂ (pick (ρ (e i).variable)) (answered_child (e i).low below (low_below w e i (all_at (lawful w e) n fine i hi))) (answered_child (e i).high below (high_below w e i (all_at (lawful w e) n fine i hi)))
-      ∙ sym (ap (answers ρ) (decision_node w e n fine i hi)))
+      ∙ sym (ap (answers ρ) (decision_node w e n fine i hi))
+
+-- so many entries and one more are answered
+pub answered_more : (ρ : ℕ → Truth) (e : ℕ → Entry) (row : List Truth) (i : ℕ) (r : Truth) → i < length row → Answered ρ e row i → r ≡ answers ρ (decision_at e i) → Answered ρ e (set row i r) (i + 1)
+answered_more ρ e row i r hl below here =
+    below_more (λ j. get_or (set row i r) j Outside ≡ answers ρ (decision_at e j)) i
+    (λ j h. let ne : j ≢ i = omega arith in get_or-set_other row i j r Outside ne ∙ below j h)
+    (get_or-set_same row i r Outside hl ∙ here)

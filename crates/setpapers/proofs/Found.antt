@@ -1,25 +1,15 @@
 -- A reader's answer says which rule is broken first.
-use Rattle.std.proofs.Common.{◌≡◌, ℕ, zero, suc, ◌<◌, ◌≤◌, Bool, true, false, ltb, List, Ok, Err, Result, sym, refl, ap, ◌∙◌, subst, inl, inr, ⊎_elim, arith}
+use Rattle.std.proofs.Common.{◌≡◌, ℕ, zero, suc, ◌<◌, ◌≤◌, Bool, true, false, ltb, List, Ok, Err, Result, sym, refl, subst, inl, inr, ⊎_elim, arith}
 use Rattle.std.proofs.lemmas.Bool.{and_from, ltb-true, ltb-false, cases_Bool, both_ways}
 use Rattle.records.specs.declared.PaperKind.{PaperKind}
 use Rattle.records.specs.declared.RecordFault.{RecordFault}
 use Rattle.records.specs.Papers.{Holds, Exact}
-use Rattle.records.specs.Single.{and_then, single_in}
-use Rattle.records.specs.Walks.{map_err}
+use Rattle.records.specs.Single.{single_in}
 use Rattle.setpapers.specs.declared.fault.SetFault.{SetFault}
 use Rattle.setpapers.specs.declared.fault.SetFault.TheVariants.{Record, TooMany, BadEntry}
-use Rattle.setpapers.specs.Papers.{accepted, body_in, answered, Judged, Found}
+use Rattle.setpapers.specs.Papers.{accepted, answered, Judged, Found}
 use Rattle.setpapers.specs.Rows.{all, all_parts, first, verdict}
 use Rattle.setpapers.specs.Verdicts.{first_fine, first_bad}
-
--- ---- what is in a paper
-
-module _ (kind : PaperKind) (check : List ℕ → Result (Unit {0}) SetFault) (paper : List ℕ) where
-  pub body_record : (f : RecordFault) → Err f ≡ single_in kind paper → Err (Record f) ≡ body_in kind check paper
-  body_record f e = ap (λ s. and_then (map_err Record s) (λ body. accepted body (check body))) e
-
-  pub body_check : (body : List ℕ) → Ok body ≡ single_in kind paper → accepted body (check body) ≡ body_in kind check paper
-  body_check body e = ap (λ s. and_then (map_err Record s) (λ body. accepted body (check body))) e
 
 -- ---- the verdict on rows
 
@@ -80,10 +70,11 @@ module _ (kind : PaperKind) (least : ℕ) (count : List ℕ → ℕ) (P : List �
   of_body body h (Err TooMany) j = (body, h, j)
   of_body body h (Err (BadEntry i)) j = (body, h, j)
 
-  pub paper_found : (check : List ℕ → Result (Unit {0}) SetFault) → Exact kind paper (single_in kind paper) → ((body : List ℕ) → Judged least (P body) (count body) (check body))
-      → Found kind least count P paper (answered (body_in kind check paper))
-  paper_found check exact judged = go (single_in kind paper) refl
-    where
-      go : (s : Result (List ℕ) RecordFault) → single_in kind paper ≡ s → Found kind least count P paper (answered (and_then (map_err Record s) (λ body. accepted body (check body))))
-      go (Ok body) e = of_body body (exact.accepted body e) (check body) (judged body)
-      go (Err f) e = (e, λ body h. subst holds_body (sym (exact.every body h) ∙ e) tt)
+-- what a reader answers of a paper whose body is read, where the verdict on its entries tests their rule
+module _ (kind : PaperKind) (least : ℕ) (count : List ℕ → ℕ) (p : List ℕ → ℕ → Bool) (P : List ℕ → ℕ → Type 0)
+    (to : (bs : List ℕ) (i : ℕ) → all (p bs) (suc i) ≡ true → P bs i) (from : (bs : List ℕ) (i : ℕ) → P bs i → p bs i ≡ true) (paper : List ℕ) where
+  pub verdict_found : (k : PaperKind) (body : List ℕ) (v : Result (Unit {0}) SetFault) → k ≡ kind → Ok body ≡ single_in k paper → Exact k paper (Ok body) → v ≡ verdict least (p body) (count body)
+      → Found kind least count P paper (answered (accepted body v))
+  verdict_found k body v same is exact said =
+      of_body kind least count P paper body (subst (λ m. Holds m body paper) same (exact.accepted body refl)) v
+      (subst (Judged least (P body) (count body)) (sym said) (verdict_judged least (p body) (P body) (to body) (from body) (count body)))

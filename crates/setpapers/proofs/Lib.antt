@@ -1,6 +1,8 @@
 pub mod Listed
 pub mod Answered
 pub mod Rooted
-pub mod Naming
 pub mod Found
-pub mod Rules
+pub mod Firsts
+pub mod Chunks
+pub mod Entered
+pub mod Claimed

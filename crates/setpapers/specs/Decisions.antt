@@ -2,8 +2,7 @@
 use Rattle.std.specs.Prelude.{ℕ, ◌<◌, Bool, true, false, cond}
 use Rattle.logic.specs.declared.truth.Truth.{Truth}
 use Rattle.logic.specs.declared.truth.Truth.TheVariants.{True, False, Open as Unknown}
-use Rattle.sets.specs.declared.answer.Answer.{Answer}
-use Rattle.sets.specs.declared.answer.Answer.TheVariants.{Inside, Outside, Open}
+use Rattle.logic.specs.declared.truth.Truth.TheVariants.{True as Inside, False as Outside, Open}
 
 -- a test of a variable has a decision for where it is false and one for where it is true
 pub data Decision : Type 0 where
@@ -18,7 +17,7 @@ picks s inn = true
 picks s (test v low high) = cond (s v) (picks s high) (picks s low)
 
 -- the answer of two, if they agree
-abbrev pub agree : Answer → Answer → Answer
+abbrev pub agree : Truth → Truth → Truth
 agree Inside Inside = Inside
 agree Inside Outside = Open
 agree Inside Open = Open
@@ -28,13 +27,13 @@ agree Outside Open = Open
 agree Open b = Open
 
 -- a known variable picks, a free one asks both
-abbrev pub pick : Truth → Answer → Answer → Answer
+abbrev pub pick : Truth → Truth → Truth → Truth
 pick True low high = high
 pick False low high = low
 pick Unknown low high = agree low high
 
 -- the answer where each variable has a truth
-abbrev pub answers : (ℕ → Truth) → Decision → Answer
+abbrev pub answers : (ℕ → Truth) → Decision → Truth
 answers ρ out = Outside
 answers ρ inn = Inside
 answers ρ (test v low high) = pick (ρ v) (answers ρ low) (answers ρ high)

@@ -1,14 +1,15 @@
 -- A diagram keeps the laws of a set.
-use Rattle.std.specs.Prelude.{◌≡◌, ℕ, zero, suc, ◌+◌, ◌-◌, ◌<◌, Bool, true, false, cond, ◌&&◌, ltb, ◌⊎◌, ◌==◌, ◌≢◌, nat_lt, refl}
-use Rattle.std.proofs.Common.{sym, ap₂, subst, inl, inr, ⊎_elim, arith}
-use Rattle.std.proofs.lemmas.Bool.{and_parts, or_cases, ltb-true, eq-eqb, ne_eqb, cases_eq, cond-true, cond-false}
+use Rattle.std.specs.Prelude.{◌≡◌, ℕ, zero, suc, ◌<◌, Bool, true, false, cond, ◌&&◌, ◌≢◌, nat_lt, refl}
+use Rattle.std.proofs.Common.{sym, ap₂, subst, arith}
+use Rattle.std.proofs.lemmas.Bool.{and_parts, ltb-true, cond-true, cond-false}
 use Rattle.logic.specs.declared.truth.Truth.{Truth}
 use Rattle.logic.specs.declared.truth.Truth.TheVariants.{True, False, Open as Unknown}
 use Rattle.logic.specs.States.{Allows, Has, Settled}
-use Rattle.sets.specs.declared.answer.Answer.{Answer}
-use Rattle.sets.specs.declared.answer.Answer.TheVariants.{Inside, Outside, Open}
+use Rattle.logic.specs.declared.truth.Truth.TheVariants.{True as Inside, False as Outside, Open}
 use Rattle.sets.specs.Sets.{Laws}
-use Rattle.sets.specs.Told.{Says, states_where, told, told_laws}
+use Rattle.sets.specs.Told.{states_where, told, told_laws}
+use Rattle.setpapers.specs.declared.entry.Child.{Child}
+use Rattle.setpapers.specs.declared.entry.Child.TheVariants.{Outside as Outside', Inside as Inside', Entry as EntryAt}
 use Rattle.setpapers.specs.declared.entry.Entry.{Entry}
 use Rattle.setpapers.specs.Rows.{all, all_at}
 use Rattle.setpapers.specs.Decisions.{Decision, out, inn, test, picks, agree, pick, answers, Below}
@@ -17,7 +18,7 @@ use Rattle.setpapers.specs.Diagrams.{child, entry_decision, decision_to, decisio
 -- ---- decisions
 
 -- what two agree on holds of either
-agree_says : (a b : Answer) (x y t : Bool) → Says a x → Says b y → Says (agree a b) (cond t y x)
+agree_says : (a b : Truth) (x y t : Bool) → Allows a x → Allows b y → Allows (agree a b) (cond t y x)
 agree_says Inside Inside x y true p q = q
 agree_says Inside Inside x y false p q = p
 agree_says Inside Outside x y t p q = tt
@@ -29,26 +30,26 @@ agree_says Outside Open x y t p q = tt
 agree_says Open b x y t p q = tt
 
 -- what the picked one says holds
-pick_says : (τ : Truth) (a b : Answer) (x y t : Bool) → Allows τ t → Says a x → Says b y → Says (pick τ a b) (cond t y x)
-pick_says True a b x y t h p q = subst (Says b) (sym (cond-true t y x h)) q
-pick_says False a b x y t h p q = subst (Says a) (sym (cond-false t y x h)) p
+pick_says : (τ : Truth) (a b : Truth) (x y t : Bool) → Allows τ t → Allows a x → Allows b y → Allows (pick τ a b) (cond t y x)
+pick_says True a b x y t h p q = subst (Allows b) (sym (cond-true t y x h)) q
+pick_says False a b x y t h p q = subst (Allows a) (sym (cond-false t y x h)) p
 pick_says Unknown a b x y t h p q = agree_says a b x y t p q
 
 -- what a decision answers to a cube holds of each of its states
-decision_says : (ρ : ℕ → Truth) (s : ℕ → Bool) → Has ρ s → (d : Decision) → Says (answers ρ d) (picks s d)
+decision_says : (ρ : ℕ → Truth) (s : ℕ → Bool) → Has ρ s → (d : Decision) → Allows (answers ρ d) (picks s d)
 decision_says ρ s h out = refl
 decision_says ρ s h inn = refl
 decision_says ρ s h (test v low high) =
     pick_says (ρ v) (answers ρ low) (answers ρ high) (picks s low) (picks s high) (s v) (h v) (decision_says ρ s h low) (decision_says ρ s h high)
 
 -- a known variable picks an answer that is not open
-pick_settles : (τ : Truth) (a b : Answer) → (τ ≢ Unknown) → (a ≢ Open) → (b ≢ Open) → pick τ a b ≢ Open
+pick_settles : (τ : Truth) (a b : Truth) → (τ ≢ Unknown) → (a ≢ Open) → (b ≢ Open) → pick τ a b ≢ Open
 pick_settles True a b h p q = q
 pick_settles False a b h p q = p
 pick_settles Unknown a b h p q = absurd (h refl)
 
 -- an answer that is not open
-abbrev fixed : Answer → Type 0
+abbrev fixed : Truth → Type 0
 fixed Inside = Unit {0}
 fixed Outside = Unit {0}
 fixed Open = ⊥
@@ -62,39 +63,37 @@ decision_settles w ρ h (test v low high) b =
 
 -- ---- lawful entries
 
+-- the child is no entry, or one below i
+abbrev pub Under : ℕ → Child → Type 0
+Under i Outside' = Unit {0}
+Under i Inside' = Unit {0}
+Under i (EntryAt j) = j < i
+
 module _ (w : ℕ) (e : ℕ → Entry) (i : ℕ) (o : lawful w e i ≡ true) where
   pub variable_below : (e i).variable < w
   variable_below = ltb-true _ _ (and_parts _ _ o).0
 
-  child_below : (v c : ℕ) → lawful_child e i v c ≡ true → c < i + 2
-  child_below v c h =
-      ⊎_elim
-      (λ (l : ltb c 2 ≡ true). omega (arith, ltb-true c 2 l))
-      (λ (l : (nat_lt (c - 2) i && nat_lt v (e (c - 2)).variable) ≡ true). omega (arith, ltb-true (c - 2) i (and_parts _ _ l).0))
-      (or_cases _ _ h)
+  child_below : (v : ℕ) (c : Child) → lawful_child e i v c ≡ true → Under i c
+  child_below v Outside' h = tt
+  child_below v Inside' h = tt
+  child_below v (EntryAt j) h = ltb-true j i (and_parts (nat_lt j i) (nat_lt v (e j).variable) h).0
 
   children : (lawful_child e i (e i).variable (e i).low ≡ true) × (lawful_child e i (e i).variable (e i).high ≡ true)
   children =
       and_parts (lawful_child e i (e i).variable (e i).low) (lawful_child e i (e i).variable (e i).high)
       (and_parts (nat_lt (e i).variable w) (lawful_child e i (e i).variable (e i).low && lawful_child e i (e i).variable (e i).high) o).1
 
-  pub low_below : (e i).low < i + 2
+  pub low_below : Under i (e i).low
   low_below = child_below (e i).variable (e i).low children.0
 
-  pub high_below : (e i).high < i + 2
+  pub high_below : Under i (e i).high
   high_below = child_below (e i).variable (e i).high children.1
 
 -- a relation of what the fixed children and the entries below i stand for holds of each child
-pub child_so : {A B : Type 0} (R : A → B → Type 0) (a b : A) (x y : B) (f : ℕ → A) (g : ℕ → B) (i c : ℕ) → R a x → R b y → ((j : ℕ) → j < i → R (f j) (g j)) → c < i + 2 → R (child a b f c) (child x y g c)
-child_so R a b x y f g i c p q h l = go (cases_eq c 0)
-  where
-    one : (c ≢ 0) → (c ≡ 1) ⊎ (c ≢ 1) → R (cond (c == 1) b (f (c - 2))) (cond (c == 1) y (g (c - 2)))
-    one z (inl e) = rw (eq-eqb c 1 e) q
-    one z (inr n) = rw (ne_eqb c 1 n) (h (c - 2) (omega arith))
-
-    go : (c ≡ 0) ⊎ (c ≢ 0) → R (child a b f c) (child x y g c)
-    go (inl e) = rw (eq-eqb c 0 e) p
-    go (inr n) = rw (ne_eqb c 0 n) (one n (cases_eq c 1))
+pub child_so : {A B : Type 0} (R : A → B → Type 0) (a b : A) (x y : B) (f : ℕ → A) (g : ℕ → B) (i : ℕ) (c : Child) → R a x → R b y → ((j : ℕ) → j < i → R (f j) (g j)) → Under i c → R (child a b f c) (child x y g c)
+child_so R a b x y f g i Outside' p q h l = p
+child_so R a b x y f g i Inside' p q h l = q
+child_so R a b x y f g i (EntryAt j) p q h l = h j l
 
 module _ (w : ℕ) (e : ℕ → Entry) (n : ℕ) (fine : all (lawful w e) n ≡ true) where
   at : (i : ℕ) → i < n → lawful w e i ≡ true

@@ -1,10 +1,13 @@
 -- A decision diagram: what its bytes hold, which decision it stands for, and its rules.
-use Rattle.std.specs.Prelude.{◌≡◌, ℕ, zero, suc, ◌+◌, ◌-◌, ◌*◌, ◌/◌, ◌<◌, Bool, cond, ◌&&◌, ◌||◌, ◌⊎◌, List, length, Result, ◌==◌, nat_lt, slice_index}
+use Rattle.std.specs.Prelude.{ℕ, zero, suc, ◌+◌, ◌*◌, ◌/◌, ◌<◌, Bool, true, ◌&&◌, List, length, Result, nat_lt, slice_index}
 use Rattle.records.specs.declared.PaperKind.TheVariants.{Diagram as DiagramPaper}
 use Rattle.logic.specs.Partial.{PartialState}
-use Rattle.sets.specs.declared.answer.Answer.{Answer}
+use Rattle.logic.specs.declared.truth.Truth.{Truth}
 use Rattle.sets.specs.Told.{states_where, told}
+use Rattle.setpapers.specs.declared.entry.Child.{Child}
+use Rattle.setpapers.specs.declared.entry.Child.TheVariants.{Outside, Inside, Entry as EntryAt}
 use Rattle.setpapers.specs.declared.entry.Entry.{Entry}
+use Rattle.setpapers.specs.Entries.{child_of}
 use Rattle.setpapers.specs.declared.fault.SetFault.{SetFault}
 use Rattle.setpapers.specs.Rows.{verdict}
 use Rattle.setpapers.specs.Papers.{body_in}
@@ -18,13 +21,15 @@ entries bs = length bs / 5
 unfoldable pub entry_at : List ℕ → ℕ → Entry
 entry_at bs i = record {
   variable = slice_index bs (i * 5);
-  low = slice_index bs (i * 5 + 1) + slice_index bs (i * 5 + 2) * 256;
-  high = slice_index bs (i * 5 + 3) + slice_index bs (i * 5 + 4) * 256;
+  low = child_of (slice_index bs (i * 5 + 1) + slice_index bs (i * 5 + 2) * 256);
+  high = child_of (slice_index bs (i * 5 + 3) + slice_index bs (i * 5 + 4) * 256);
 }
 
--- what a child stands for: 0 and 1 are fixed, j + 2 is the entry j
-abbrev pub child : {A : Type 0} → A → A → (ℕ → A) → ℕ → A
-child a b f c = cond (c == 0) a (cond (c == 1) b (f (c - 2)))
+-- what a child stands for, where f says what the entries stand for
+abbrev pub child : {A : Type 0} → A → A → (ℕ → A) → Child → A
+child a b f Outside = a
+child a b f Inside = b
+child a b f (EntryAt j) = f j
 
 -- the decision of an entry, where f says what the entries below it stand for
 abbrev pub entry_decision : (ℕ → Decision) → Entry → Decision
@@ -53,12 +58,14 @@ abbrev pub diagram_has : ℕ → List ℕ → ℕ → Bool
 diagram_has w bs = states_where w (λ s. picks s (decision_in bs))
 
 -- the answer to any cube
-abbrev pub diagram_answer : ℕ → List ℕ → PartialState → Answer
+abbrev pub diagram_answer : ℕ → List ℕ → PartialState → Truth
 diagram_answer w bs = told w (λ ρ. answers ρ (decision_in bs))
 
 -- a child of the entry i, which tests v, is fixed, or an earlier entry that tests a greater variable
-abbrev pub lawful_child : (ℕ → Entry) → ℕ → ℕ → ℕ → Bool
-lawful_child e i v c = nat_lt c 2 || (nat_lt (c - 2) i && nat_lt v (e (c - 2)).variable)
+abbrev pub lawful_child : (ℕ → Entry) → ℕ → ℕ → Child → Bool
+lawful_child e i v Outside = true
+lawful_child e i v Inside = true
+lawful_child e i v (EntryAt j) = nat_lt j i && nat_lt v (e j).variable
 
 -- the entry i of a diagram over w variables
 abbrev pub lawful : ℕ → (ℕ → Entry) → ℕ → Bool
@@ -73,11 +80,13 @@ abbrev pub diagram_in : ℕ → List ℕ → Result (List ℕ) SetFault
 diagram_in w = body_in DiagramPaper (diagram_verdict w)
 
 -- a child of the entry i is outside or inside, or an entry of a lower number that tests a greater variable
-abbrev pub Child : (ℕ → Entry) → ℕ → ℕ → Type 0
-Child e i c = (c < 2) ⊎ ((j : ℕ) × (c ≡ j + 2) × (j < i) × ((e i).variable < (e j).variable))
+abbrev pub IsChild : (ℕ → Entry) → ℕ → Child → Type 0
+IsChild e i Outside = Unit {0}
+IsChild e i Inside = Unit {0}
+IsChild e i (EntryAt j) = (j < i) × ((e i).variable < (e j).variable)
 
 -- the rule of the entry i, over w variables
 pub record DiagramEntry (w : ℕ) (bs : List ℕ) (i : ℕ) : Type 0 where
   pub variable : (entry_at bs i).variable < w
-  pub low : Child (entry_at bs) i (entry_at bs i).low
-  pub high : Child (entry_at bs) i (entry_at bs i).high
+  pub low : IsChild (entry_at bs) i (entry_at bs i).low
+  pub high : IsChild (entry_at bs) i (entry_at bs i).high

@@ -1,12 +1,13 @@
 -- A formula keeps the laws of a set.
-use Rattle.std.specs.Prelude.{◌≡◌, ℕ, zero, suc, ◌<◌, ◌≤◌, Bool, true, false, List, Some, None, Option, ◌≢◌, refl}
-use Rattle.std.proofs.Common.{sym, ap, subst, ◌∙◌, ⊎_elim, arith}
+use Rattle.std.specs.Prelude.{◌≡◌, ℕ, zero, suc, ◌<◌, ◌≤◌, Bool, true, List, Some, None, Option, ◌≢◌, refl}
+use Rattle.std.proofs.Common.{sym, ap, ◌∙◌, ⊎_elim, arith}
 use Rattle.std.proofs.lemmas.List.{get_or_past}
 use Rattle.std.proofs.lemmas.Bool.{and_parts, cases_lt}
 use Rattle.logic.specs.declared.truth.Truth.{Truth}
-use Rattle.logic.specs.declared.truth.Truth.TheVariants.{True, False, Open as Unknown}
+use Rattle.logic.specs.declared.truth.Truth.TheVariants.{True, False, Open}
+use Rattle.logic.specs.Contained.{given_known}
 use Rattle.logic.specs.Kleene.{given, sure}
-use Rattle.logic.specs.States.{Allows, Settled}
+use Rattle.logic.specs.States.{Settled}
 use Rattle.formulas.specs.declared.node.Node.{Node}
 use Rattle.formulas.specs.declared.node.Node.TheVariants.{False as no_node}
 use Rattle.formulas.specs.Decode.{ordered, Ordered}
@@ -14,46 +15,27 @@ use Rattle.formulas.specs.Formula.{Formula, kleene, holds}
 use Rattle.formulas.specs.Sorts.{formula_node}
 use Rattle.formulas.specs.Sound.{kleene_sound}
 use Rattle.formulas.specs.Within.{Within, kleene_total, formula_within}
-use Rattle.sets.specs.declared.answer.Answer.{Answer}
-use Rattle.sets.specs.declared.answer.Answer.TheVariants.{Inside, Outside, Open}
 use Rattle.sets.specs.Sets.{Laws}
-use Rattle.sets.specs.Told.{Says, told_laws}
+use Rattle.sets.specs.Told.{told_laws}
 use Rattle.setpapers.specs.Rows.{all, all_at}
 use Rattle.setpapers.specs.Diagrams.{entries}
 use Rattle.setpapers.specs.Tabled.{length_table, get_or_table}
-use Rattle.setpapers.specs.FormulaSets.{decoded_at, node_or, node_at, nodes_in, root_to, formula_of, answer_for, formula_has, formula_answer, named_by, fits, lawful_node, lawful_at}
-
--- what a truth says of a state, its answer says
-answer_says : (τ : Truth) (b : Bool) → Allows τ b → Says (answer_for τ) b
-answer_says True b h = h
-answer_says False b h = h
-answer_says Unknown b h = tt
+use Rattle.setpapers.specs.FormulaSets.{decoded_at, node_or, node_at, nodes_in, root_to, formula_of, formula_has, formula_answer, named_by, fits, lawful_node, lawful_at}
 
 -- ---- where no variable is open, no formula is
 
 -- a truth that is not open
-given_sure : (τ : Truth) → (τ ≢ Unknown) → τ ≡ given (sure τ)
+given_sure : (τ : Truth) → (τ ≢ Open) → τ ≡ given (sure τ)
 given_sure True h = refl
 given_sure False h = refl
-given_sure Unknown h = absurd (h refl)
+given_sure Open h = absurd (h refl)
 
--- an answer that is not open
-abbrev settled : Answer → Type 0
-settled Inside = Unit {0}
-settled Outside = Unit {0}
-settled Open = ⊥
-
--- such is that of a truth that has a value
-answer_settled : (b : Bool) → settled (answer_for (given b))
-answer_settled true = tt
-answer_settled false = tt
-
--- where no variable is open, no answer is
-formula_settles : (w : ℕ) (ρ : ℕ → Truth) → Settled w ρ → (φ : Formula) → Within w φ → answer_for (kleene ρ φ) ≢ Open
+-- where no variable is open, the formula has a truth
+formula_settles : (w : ℕ) (ρ : ℕ → Truth) → Settled w ρ → (φ : Formula) → Within w φ → kleene ρ φ ≢ Open
 formula_settles w ρ h φ within e =
     let s : ℕ → Bool = λ v. sure (ρ v) in
     let total : kleene ρ φ ≡ given (holds s φ) = kleene_total w ρ s (λ v k. given_sure (ρ v) (h v k)) φ within in
-    subst settled (sym (ap answer_for total) ∙ e) (answer_settled (holds s φ))
+    given_known (holds s φ) (sym total ∙ e)
 
 -- ---- lawful nodes are in order
 
@@ -78,7 +60,7 @@ module _ (w : ℕ) (bs : List ℕ) (fine : all (lawful_at w bs) (entries bs) ≡
 
   pub formula_laws : Laws w (formula_has w bs) (formula_answer w bs)
   formula_laws =
-      told_laws w (λ s. holds s (formula_of bs)) (λ ρ. answer_for (kleene ρ (formula_of bs))) (record {
-        says = λ ρ s h. answer_says (kleene ρ (formula_of bs)) (holds s (formula_of bs)) (kleene_sound ρ s h (formula_of bs));
+      told_laws w (λ s. holds s (formula_of bs)) (λ ρ. kleene ρ (formula_of bs)) (record {
+        says = λ ρ s h. kleene_sound ρ s h (formula_of bs);
         settles = λ ρ h. formula_settles w ρ h (formula_of bs) (root_within (entries bs));
       })

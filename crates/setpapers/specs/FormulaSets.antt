@@ -1,8 +1,7 @@
 -- A formula as a paper of nodes: what its bytes hold, which formula it stands for, and its rules.
-use Rattle.std.specs.Prelude.{◌≡◌, ℕ, zero, suc, ◌+◌, ◌*◌, Bool, true, false, not, ◌&&◌, List, [], Some, None, Option, Result, slice_index}
+use Rattle.std.specs.Prelude.{◌≡◌, ℕ, zero, suc, ◌+◌, ◌*◌, Bool, true, false, not, ◌&&◌, List, [], Some, None, Option, Result, slice_index, unwrap_or}
 use Rattle.records.specs.declared.PaperKind.TheVariants.{Formula as FormulaPaper}
 use Rattle.logic.specs.declared.truth.Truth.{Truth}
-use Rattle.logic.specs.declared.truth.Truth.TheVariants.{True, False, Open as Unknown}
 use Rattle.logic.specs.Partial.{PartialState}
 use Rattle.formulas.specs.declared.node.Node.{Node}
 use Rattle.formulas.specs.declared.node.Node.TheVariants.{False as no_node}
@@ -11,8 +10,6 @@ use Rattle.formulas.specs.Formula.{Formula, ff, kleene, holds}
 use Rattle.formulas.specs.Names.{children, clash, claimed, Once}
 use Rattle.formulas.specs.Sorts.{formula_node}
 use Rattle.formulas.specs.Written.{decoded}
-use Rattle.sets.specs.declared.answer.Answer.{Answer}
-use Rattle.sets.specs.declared.answer.Answer.TheVariants.{Inside, Outside, Open}
 use Rattle.sets.specs.Told.{states_where, told}
 use Rattle.setpapers.specs.declared.fault.SetFault.{SetFault}
 use Rattle.setpapers.specs.Rows.{verdict}
@@ -26,8 +23,7 @@ decoded_at bs i = decoded (slice_index bs (i * 5)) (slice_index bs (i * 5 + 1) +
 
 -- the node, or the formula that is false
 abbrev pub node_or : Option Node → Node
-node_or (Some N) = N
-node_or None = no_node
+node_or o = unwrap_or o no_node
 
 -- the node i of the bytes
 abbrev pub node_at : List ℕ → ℕ → Node
@@ -46,19 +42,13 @@ root_to nodes (suc n) = formula_at nodes n
 abbrev pub formula_of : List ℕ → Formula
 formula_of bs = root_to (nodes_in bs) (entries bs)
 
--- true is inside, false is outside
-abbrev pub answer_for : Truth → Answer
-answer_for True = Inside
-answer_for False = Outside
-answer_for Unknown = Open
-
 -- the states of width w in which the formula holds
 abbrev pub formula_has : ℕ → List ℕ → ℕ → Bool
 formula_has w bs = states_where w (λ s. holds s (formula_of bs))
 
 -- the answer to any cube
-abbrev pub formula_answer : ℕ → List ℕ → PartialState → Answer
-formula_answer w bs = told w (λ ρ. answer_for (kleene ρ (formula_of bs)))
+abbrev pub formula_answer : ℕ → List ℕ → PartialState → Truth
+formula_answer w bs = told w (λ ρ. kleene ρ (formula_of bs))
 
 -- what the first i nodes name
 unfoldable pub named_by : (ℕ → Node) → ℕ → List ℕ

@@ -3,8 +3,8 @@ use Rattle.std.specs.Prelude.{◌≡◌, ℕ, ◌^◌, true, false, cond, List, 
 use Rattle.std.proofs.Common.{sym, ap, subst, ⊎_elim, arith}
 use Rattle.std.proofs.lemmas.Bool.{both_ways, eq-eqb, ne_eqb, cond-true, cond-false, cases_eq, cases_Bool}
 use Rattle.logic.specs.Partial.{PartialState, Fine, In, free_count, holds_state}
-use Rattle.sets.specs.declared.answer.Answer.{Answer}
-use Rattle.sets.specs.declared.answer.Answer.TheVariants.{Inside, Outside, Open}
+use Rattle.logic.specs.declared.truth.Truth.{Truth}
+use Rattle.logic.specs.declared.truth.Truth.TheVariants.{True as Inside, False as Outside, Open}
 use Rattle.sets.specs.Layers.{laws_at}
 use Rattle.sets.specs.Points.{total_free}
 use Rattle.sets.specs.Sets.{Laws, Claims, Total}
@@ -30,7 +30,7 @@ module _ (e : ℕ → ℕ) (n : ℕ) (c : PartialState) (fine : Fine c) (r : ris
   list_claims =
       let t = tally (holds_state c) e n in
       let m = 2 ^ free_count c in
-      let P : Answer → Type 0 = λ a. Claims a (listed e n) c in
+      let P : Truth → Type 0 = λ a. Claims a (listed e n) c in
       ⊎_elim
       (λ (z : t ≡ 0). subst P (sym (cond-true (t == 0) Outside (cond (t == m) Inside Open) (eq-eqb t 0 z))) (none_listed z))
       (λ (z : t ≡ 0 → ⊥). subst P (sym (cond-false (t == 0) Outside (cond (t == m) Inside Open) (ne_eqb t 0 z)))

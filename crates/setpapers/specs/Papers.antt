@@ -1,10 +1,11 @@
 -- Which entries a set paper holds, and what its verdict says of them.
-use Rattle.std.specs.Prelude.{◌≡◌, ℕ, ◌<◌, ◌≤◌, ◌⊎◌, List, [], Ok, Err, Result}
+use Rattle.std.specs.Prelude.{◌≡◌, ℕ, ◌<◌, ◌≤◌, ◌⊎◌, Bool, List, [], Ok, Err, Result}
 use Rattle.records.specs.declared.PaperKind.{PaperKind}
 use Rattle.records.specs.Papers.{Holds}
 use Rattle.records.specs.Single.{and_then, single_in}
 use Rattle.records.specs.Walks.{map_err}
 use Rattle.setpapers.specs.declared.fault.SetFault.{SetFault}
+use Rattle.setpapers.specs.Rows.{verdict}
 use Rattle.setpapers.specs.declared.fault.SetFault.TheVariants.{Record, TooMany, BadEntry}
 
 -- the body, where its verdict accepts it
@@ -15,6 +16,15 @@ accepted body (Err e) = Err e
 -- the body of a paper of this kind whose entries the verdict accepts, or the first fault
 abbrev pub body_in : PaperKind → (List ℕ → Result (Unit {0}) SetFault) → List ℕ → Result (List ℕ) SetFault
 body_in kind check paper = and_then (map_err Record (single_in kind paper)) (λ body. accepted body (check body))
+
+-- the body of a paper of this kind with at least so many entries, each of which passes, or the first fault
+abbrev pub entries_in : PaperKind → ℕ → (ℕ → List ℕ → ℕ → Bool) → (List ℕ → ℕ) → ℕ → List ℕ → Result (List ℕ) SetFault
+entries_in kind least p count w = body_in kind (λ bs. verdict least (p w bs) (count bs))
+
+-- whether a reader returns what it reads, and if not why
+abbrev pub outcome : {A : Type 0} → Result A SetFault → Result (Unit {0}) SetFault
+outcome (Ok x) = Ok tt
+outcome (Err e) = Err e
 
 -- a reader's answer
 abbrev pub answered : Result (List ℕ) SetFault → Result (Unit {0}) SetFault

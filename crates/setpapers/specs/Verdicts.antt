@@ -3,7 +3,7 @@ use Rattle.std.specs.Prelude.{◌≡◌, ℕ, zero, suc, ◌<◌, ◌≤◌, Boo
 use Rattle.std.proofs.Math.Path.{refl, ap, subst}
 use Rattle.std.proofs.Common.{sym, ◌∙◌, arith}
 use Rattle.std.proofs.Math.Logic.{⊎_elim}
-use Rattle.std.proofs.lemmas.Bool.{and_from, cases_eq, le-ltb, ltb-false, cases_Bool}
+use Rattle.std.proofs.lemmas.Bool.{and_from, cases_eq, le-ltb, lt-ltb, ltb-false, cases_Bool}
 use Rattle.setpapers.specs.declared.fault.SetFault.{SetFault}
 use Rattle.setpapers.specs.declared.fault.SetFault.TheVariants.{TooMany, BadEntry}
 use Rattle.setpapers.specs.Rows.{all, all_parts, first, next, verdict}
@@ -43,6 +43,12 @@ module _ (p : ℕ → Bool) where
   first_ok (suc n) h = let q = next_parts (first p n) (p n) (BadEntry n) h in and_from _ _ (first_ok n q.0) q.1
 
   module _ (least n : ℕ) where
+    pub verdict_many : 1024 < n → Err TooMany ≡ verdict least p n
+    verdict_many h = rw (lt-ltb 1024 n h)
+
+    pub verdict_lacks : n ≤ 1024 → n < least → Err (BadEntry 0) ≡ verdict least p n
+    verdict_lacks few h = rw (le-ltb 1024 n few, lt-ltb n least h)
+
     module _ (few : n ≤ 1024) (some : least ≤ n) where
       verdict_first : verdict least p n ≡ first p n
       verdict_first = rw (le-ltb 1024 n few, le-ltb n least some)

@@ -5,4 +5,6 @@ pub mod diagram;
 pub mod entry;
 pub mod fault;
 pub mod formula;
+pub mod kind;
 pub mod list;
+pub mod read_set;

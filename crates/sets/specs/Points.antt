@@ -5,8 +5,8 @@ use Rattle.std.proofs.lemmas.Nat.{and_mask, ones-le}
 use Rattle.std.specs.Int.Count.{ones_step, ones-ones}
 use Rattle.std.proofs.lemmas.Bool.{and_parts, and_from, and_left, ltb-true, lt-ltb, eq-eqb, ne_eqb, cases_eq, cond-true, cond-false}
 use Rattle.logic.specs.Partial.{PartialState, Fine, In, free_count}
-use Rattle.sets.specs.declared.answer.Answer.{Answer}
-use Rattle.sets.specs.declared.answer.Answer.TheVariants.{Inside, Outside, Open}
+use Rattle.logic.specs.declared.truth.Truth.{Truth}
+use Rattle.logic.specs.declared.truth.Truth.TheVariants.{True as Inside, False as Outside, Open}
 use Rattle.sets.specs.Layers.{laws_at}
 use Rattle.sets.specs.Sets.{Laws, Claims, Total, at_width}
 
@@ -15,11 +15,11 @@ abbrev pub point_has : ℕ → ℕ → ℕ → Bool
 point_has w s x = x == s && nat_lt x (2 ^ w)
 
 -- the answer to a cube of the set's width
-abbrev pub point_says : ℕ → PartialState → Answer
+abbrev pub point_says : ℕ → PartialState → Truth
 point_says s c = cond (free_count c == 0) (cond (c.value == s) Inside Outside) Open
 
 -- the answer to any cube
-abbrev pub point_answer : ℕ → ℕ → PartialState → Answer
+abbrev pub point_answer : ℕ → ℕ → PartialState → Truth
 point_answer w s c = at_width w c (point_says s c)
 
 -- a word of w ones has no other bit
@@ -46,7 +46,7 @@ total_free c t = omega (arith, ap count_ones t, ones-ones c.width)
 -- what that answer claims holds
 point_claims : (w s : ℕ) (c : PartialState) → Fine c → c.width ≡ w → Claims (point_says s c) (point_has w s) c
 point_claims w s c fine e =
-    let P : Answer → Type 0 = λ a. Claims a (point_has w s) c in
+    let P : Truth → Type 0 = λ a. Claims a (point_has w s) c in
     ⊎_elim
     (λ (f : free_count c ≡ 0).
     subst P (sym (cond-true (free_count c == 0) (cond (c.value == s) Inside Outside) Open (eq-eqb _ _ f)))

@@ -1,11 +1,13 @@
 //! Layers: sets made of any sets.
-ghost use Rattle.std.specs.Prelude.{◌≡◌, ℕ, Bool};
-ghost use Rattle.sets.specs.Layers.{complement_laws, meeting_laws, joining_laws};
-ghost use Rattle.sets.specs.Sets.{not_answer, both_answer, either_answer, not_has, both_have, either_has};
+ghost use Rattle.std.specs.Prelude.{◌≡◌, ℕ, Bool, ◌&&◌, ◌||◌};
+ghost use Rattle.logic.specs.declared.truth.Truth.{Truth};
+ghost use Rattle.logic.specs.Kleene.{and3, or3};
+ghost use Rattle.sets.specs.Layers.{Joins, complement_laws, joined_laws, and_joins, or_joins};
+ghost use Rattle.sets.specs.Sets.{not_answer, joined_answer, not_has, joined_have};
 
-use crate::answer::Answer;
 use crate::set::StateSet;
 use logic::cube::Cube;
+use logic::truth::Truth;
 
 /// The states of the part's width that it has not.
 #[derive(Drop)]
@@ -26,66 +28,103 @@ impl<S: StateSet> StateSet for Complement<S> {
         self.part.width()
     }
 
-    fn ask(&self, cube: &Cube) -> Answer {
+    fn ask(&self, cube: &Cube) -> Truth {
         if cube.width() != self.part.width() {
-            return Answer::Outside;
+            return Truth::False;
         }
         self.part.ask(cube).not()
     }
 }
 
-/// The states that both parts have; a second part of another width has none of the first's.
+/// How a layer joins whether each of its parts has a state, and their answers.
+pub trait Joint {
+    ghost state: { Bool → Bool → Bool };
+
+    ghost answers: { Truth → Truth → Truth };
+
+    ghost fits: { Joins state answers };
+
+    /// The layer's answer, by those of its parts.
+    fn join(&self, first: Truth, second: Truth) -> Truth
+        ensures { result ≡ answers first second };
+}
+
+/// A state that both parts have.
+#[derive(Clone, Copy, Default)]
+pub struct Both;
+
+/// A state that either part has.
+#[derive(Clone, Copy, Default)]
+pub struct Either;
+
+impl Joint for Both {
+    ghost state = { λ x y. x && y };
+
+    ghost answers = { and3 };
+
+    ghost fits = { and_joins };
+
+    fn join(&self, first: Truth, second: Truth) -> Truth {
+        first.and(second)
+    }
+}
+
+impl Joint for Either {
+    ghost state = { λ x y. x || y };
+
+    ghost answers = { or3 };
+
+    ghost fits = { or_joins };
+
+    fn join(&self, first: Truth, second: Truth) -> Truth {
+        first.or(second)
+    }
+}
+
+/// The states that the joint makes of both parts'; a second part of another width has none of the first's.
 #[derive(Drop)]
-pub struct Meeting<A, B> {
+pub struct Joined<J, A, B> {
+    pub joint: J,
     pub first: A,
     pub second: B,
 }
 
-impl<A: StateSet, B: StateSet> StateSet for Meeting<A, B> {
+/// The states that both parts have.
+pub type Meeting<A, B> = Joined<Both, A, B>;
+
+/// The states that either part has.
+pub type Joining<A, B> = Joined<Either, A, B>;
+
+impl<J: Default, A, B> Joined<J, A, B> {
+    /// The layer over these parts.
+    pub fn of(first: A, second: B) -> Joined<J, A, B>
+        ensures { (result.first ≡ first) × (result.second ≡ second) }
+    {
+        Joined {
+            joint: J::default(),
+            first,
+            second,
+        }
+    }
+}
+
+impl<J: Joint, A: StateSet, B: StateSet> StateSet for Joined<J, A, B> {
     ghost wide = { λ s. A.StateSet.wide s.first };
 
-    ghost has = { λ s. both_have (A.StateSet.wide s.first) (A.StateSet.has s.first) (B.StateSet.wide s.second) (B.StateSet.has s.second) };
+    ghost has = { λ s. joined_have J.Joint.state (A.StateSet.wide s.first) (A.StateSet.has s.first) (B.StateSet.wide s.second) (B.StateSet.has s.second) };
 
-    ghost answer = { λ s. both_answer (A.StateSet.wide s.first) (A.StateSet.answer s.first) (B.StateSet.answer s.second) };
+    ghost answer = { λ s. joined_answer J.Joint.answers (A.StateSet.wide s.first) (A.StateSet.answer s.first) (B.StateSet.answer s.second) };
 
-    ghost meant = { λ s. meeting_laws (A.StateSet.meant s.first) (B.StateSet.meant s.second) };
+    ghost meant = { λ s. joined_laws J.Joint.fits (A.StateSet.meant s.first) (B.StateSet.meant s.second) };
 
     fn width(&self) -> u8 {
         self.first.width()
     }
 
-    fn ask(&self, cube: &Cube) -> Answer {
+    fn ask(&self, cube: &Cube) -> Truth {
         if cube.width() != self.first.width() {
-            return Answer::Outside;
+            return Truth::False;
         }
-        self.first.ask(cube).and(self.second.ask(cube))
-    }
-}
-
-/// The states that either part has; a second part of another width has none of the first's.
-#[derive(Drop)]
-pub struct Joining<A, B> {
-    pub first: A,
-    pub second: B,
-}
-
-impl<A: StateSet, B: StateSet> StateSet for Joining<A, B> {
-    ghost wide = { λ s. A.StateSet.wide s.first };
-
-    ghost has = { λ s. either_has (A.StateSet.wide s.first) (A.StateSet.has s.first) (B.StateSet.wide s.second) (B.StateSet.has s.second) };
-
-    ghost answer = { λ s. either_answer (A.StateSet.wide s.first) (A.StateSet.answer s.first) (B.StateSet.answer s.second) };
-
-    ghost meant = { λ s. joining_laws (A.StateSet.meant s.first) (B.StateSet.meant s.second) };
-
-    fn width(&self) -> u8 {
-        self.first.width()
-    }
-
-    fn ask(&self, cube: &Cube) -> Answer {
-        if cube.width() != self.first.width() {
-            return Answer::Outside;
-        }
-        self.first.ask(cube).or(self.second.ask(cube))
+        self.joint.join(self.first.ask(cube), self.second.ask(cube))
     }
 }

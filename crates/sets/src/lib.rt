@@ -1,7 +1,6 @@
 //! Sets of states, asked by cubes, and the layers over them.
 #![tactic(auto)]
 
-pub mod answer;
 pub mod layers;
 pub mod point;
 pub mod set;

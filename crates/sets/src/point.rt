@@ -2,9 +2,9 @@
 ghost use Rattle.std.specs.Prelude.{◌≡◌, ℕ, Bool};
 ghost use Rattle.sets.specs.Points.{point_has, point_answer, point_laws};
 
-use crate::answer::Answer;
 use crate::set::StateSet;
 use logic::cube::Cube;
+use logic::truth::Truth;
 
 /// One state of a width; a word with a bit from the width up is no state, and the set is empty.
 /// It says nothing of a cube that has free variables.
@@ -27,15 +27,13 @@ impl StateSet for Point {
         self.width
     }
 
-    fn ask(&self, cube: &Cube) -> Answer {
+    fn ask(&self, cube: &Cube) -> Truth {
         if cube.width() != self.width {
-            Answer::Outside
+            Truth::False
         } else if cube.free_count() != 0 {
-            Answer::Open
-        } else if cube.values() == self.state {
-            Answer::Inside
+            Truth::Open
         } else {
-            Answer::Outside
+            Truth::from(cube.values() == self.state)
         }
     }
 }

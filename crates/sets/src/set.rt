@@ -2,11 +2,11 @@
 ghost use Rattle.std.specs.Prelude.{◌≡◌, ℕ, Bool};
 ghost use Rattle.logic.specs.Partial.{PartialState};
 ghost use Rattle.logic.specs.Views.{partial};
-ghost use Rattle.sets.specs.declared.answer.Answer.{Answer as AnswerOf};
+ghost use Rattle.logic.specs.declared.truth.Truth.{Truth};
 ghost use Rattle.sets.specs.Sets.{Laws};
 
-use crate::answer::Answer;
 use logic::cube::Cube;
+use logic::truth::Truth;
 
 /// Anything whose width, states and answers keep the laws of a set.
 pub trait StateSet {
@@ -14,7 +14,7 @@ pub trait StateSet {
 
     ghost has: { Self → ℕ → Bool };
 
-    ghost answer: { Self → PartialState → AnswerOf };
+    ghost answer: { Self → PartialState → Truth };
 
     ghost meant: { (s : Self) → Laws (wide s) (has s) (answer s) };
 
@@ -23,7 +23,7 @@ pub trait StateSet {
         ensures { result ≡ wide self.now };
 
     /// The answer to a cube.
-    fn ask(&self, cube: &Cube) -> Answer
+    fn ask(&self, cube: &Cube) -> Truth
         ensures { result ≡ answer self.now (partial cube.now) };
 }
 
@@ -41,7 +41,7 @@ impl<'a, S: StateSet> StateSet for &'a S {
         (**self).width()
     }
 
-    fn ask(&self, cube: &Cube) -> Answer {
+    fn ask(&self, cube: &Cube) -> Truth {
         (**self).ask(cube)
     }
 }

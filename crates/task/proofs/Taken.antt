@@ -1,7 +1,7 @@
 -- A task that takes in one entry more.
-use Rattle.std.proofs.Common.{◌≡◌, ℕ, ◌-◌, ◌<◌, ◌≤◌, Bool, true, false, List, [], ◌∷◌, ◌++◌, length, get_or, is_some, Some, None, Ok, Option, sym, refl, ap, ◌∙◌, subst, ⊎_elim, arith, length-append}
+use Rattle.std.proofs.Common.{◌≡◌, ℕ, ◌-◌, ◌<◌, ◌≤◌, Bool, true, false, List, [], ◌∷◌, ◌++◌, length, get_or, is_some, Some, None, Option, sym, refl, ap, ◌∙◌, subst, ⊎_elim, arith, length-append}
 use Rattle.std.proofs.lemmas.List.{get_or_append_left, get_or-append_right, append-nil}
-use Rattle.std.proofs.lemmas.Bool.{lt-ltb, and_parts, and_from, not-true, cases_lt, cond-true, cond-false}
+use Rattle.std.proofs.lemmas.Bool.{and_parts, and_from, not-true, cases_lt}
 use Rattle.formulas.specs.declared.node.Node.{Node}
 use Rattle.formulas.specs.Orders.{formula_below, effect_below}
 use Rattle.formulas.specs.Lawful.{is_formula, is_effect, lawful, Lawful}
@@ -12,7 +12,6 @@ use Rattle.formulas.proofs.Following.{formula_more, effect_more, lawful_push}
 use Rattle.task.specs.declared.entries.Operator.{Operator}
 use Rattle.task.specs.Values.{Value, value, with_goal, names, operator_names, goal_names}
 use Rattle.task.specs.Sound.{rooted, Rooted, aims}
-use Rattle.task.specs.Contents.{node_added, operator_added, goal_added}
 
 -- the numbers of roots
 pub root_below : (xs : List Node) (g : ℕ) → length xs ≤ 1024 → is_formula xs g ≡ true → g < 1024
@@ -47,21 +46,6 @@ rooted_push xs os o is all here = subst (Rooted xs) (sym is) each
         let none : i - length os ≡ 0 = omega (arith, length-append os (o ∷ [])) in
         ap (rooted xs) (get_or-append_right os (o ∷ []) (length os) i d refl k ∙ ap (λ q. get_or (o ∷ []) q d) none) ∙ here)
         (cases_lt i (length os))
-
--- what is told
-module _ (at : ℕ) (v : Value) where
-  pub node_told : (x : Node) (y : Option Node) (ys : List Node) → y ≡ Some x → length v.nodes < 1024 → lawful v.n v.nodes x ≡ true → clash (names v) (children x) ≡ false → ys ≡ v.nodes ++ (x ∷ []) → node_added at v y ≡ Ok (value v.n v.start ys v.operators v.goal)
-  node_told x y ys is few good fresh more =
-      ap (node_added at v) is ∙ cond-true _ _ _ (lt-ltb _ _ few) ∙ cond-true _ _ _ good ∙ cond-false _ _ _ fresh
-      ∙ λ i. Ok (value v.n v.start (sym more i) v.operators v.goal)
-
-  pub operator_told : (o : Operator) (os : List Operator) → length v.operators < 128 → rooted v.nodes o ≡ true → clash (names v) (o.precondition ∷ o.effect ∷ []) ≡ false → os ≡ v.operators ++ (o ∷ []) → operator_added at v o ≡ Ok (value v.n v.start v.nodes os v.goal)
-  operator_told o os few good fresh more =
-      cond-true _ _ _ (lt-ltb _ _ few) ∙ cond-true _ _ _ good ∙ cond-false _ _ _ fresh
-      ∙ λ i. Ok (value v.n v.start v.nodes (sym more i) v.goal)
-
-  pub goal_told : (g : ℕ) (o : Option ℕ) → o ≡ None → is_formula v.nodes g ≡ true → clash (names v) (g ∷ []) ≡ false → goal_added at v o g ≡ Ok (with_goal v g)
-  goal_told g o is good fresh = ap (λ q. goal_added at v q g) is ∙ cond-true _ _ _ good ∙ cond-false _ _ _ fresh
 
 pub none_is : (o : Option ℕ) → is_some o ≡ false → o ≡ None
 none_is None e = refl

@@ -1,5 +1,5 @@
 -- What the records of a task say, one after another.
-use Rattle.std.specs.Prelude.{◌≡◌, ℕ, ◌^◌, Bool, cond, not, ◌||◌, List, [], ◌∷◌, length, Some, None, Ok, Err, Option, Result, ◌==◌, nat_lt}
+use Rattle.std.specs.Prelude.{◌≡◌, ℕ, ◌^◌, cond, not, ◌||◌, List, [], ◌∷◌, length, Some, None, Ok, Err, Option, Result, ◌==◌, nat_lt}
 use Rattle.records.specs.Cuts.{Split}
 use Rattle.records.specs.Single.{and_then}
 use Rattle.records.specs.Walks.{map_err, walk}
@@ -7,7 +7,6 @@ use Rattle.records.specs.declared.RecordFault.TheVariants.{WrongKind}
 use Rattle.formulas.specs.declared.node.Node.{Node}
 use Rattle.formulas.specs.Lawful.{is_formula, lawful}
 use Rattle.formulas.specs.Names.{children, clash}
-use Rattle.formulas.specs.Marks.{Marks}
 use Rattle.task.specs.declared.faults.TaskFault.{TaskFault}
 use Rattle.task.specs.declared.faults.TaskFault.TheVariants.{Record, Header as BadHeader, TooMany, BadNode, NamedTwice}
 use Rattle.task.specs.declared.entries.Header.{Header}
@@ -79,8 +78,3 @@ held (Err e) = blank
 abbrev pub Agrees : Result Value TaskFault → Value → Result (Unit {0}) TaskFault → Type 0
 Agrees told t (Ok x) = told ≡ Ok t
 Agrees told t (Err e) = told ≡ Err e
-
--- besides, the marks are on the task's names
-abbrev pub Named : List Bool → Value → Result (Unit {0}) TaskFault → Type 0
-Named marks t (Ok x) = Marks marks (names t)
-Named marks t (Err e) = Unit {0}

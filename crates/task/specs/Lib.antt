@@ -1,4 +1,5 @@
 pub mod Faults
+pub mod Kinds
 pub mod Stages
 pub mod Entries
 pub mod Values

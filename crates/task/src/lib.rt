@@ -3,6 +3,7 @@
 
 pub mod entries;
 pub mod faults;
+mod kind;
 pub mod place;
 mod stage;
 pub mod stepping;

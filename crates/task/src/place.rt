@@ -1,16 +1,20 @@
 //! A planning task, with room for the largest.
 ghost use Rattle.std.specs.Prelude.{◌≡◌, ℕ, ◌^◌, ◌<◌, ◌≤◌, true, vec_len, vec_capacity};
 ghost use Rattle.formulas.specs.Lawful.{Lawful};
+ghost use Rattle.formulas.specs.Marks.{Marks};
 ghost use Rattle.formulas.specs.Names.{Once};
 ghost use Rattle.task.specs.Values.{value, names};
 ghost use Rattle.task.specs.Sound.{Rooted, aims};
 
 use crate::entries::Operator;
+use formulas::names::Names;
 use formulas::node::Node;
 
 pub mod reading;
 pub mod running;
 
+/// Variables, the state at the start, nodes, operators, the number of the goal's node, if there is one,
+/// and a mark for each node that is named.
 #[derive(Drop)]
 pub struct Task {
     n: u8,
@@ -18,6 +22,7 @@ pub struct Task {
     nodes: Vec<Node>,
     operators: Vec<Operator>,
     goal: Option<u16>,
+    named: Names,
     ghost node_room: { 1024 ≤ vec_capacity nodes },
     ghost operator_room: { 128 ≤ vec_capacity operators },
     ghost width: { n ≤ 64 },
@@ -27,5 +32,6 @@ pub struct Task {
     ghost ruled: { Lawful n nodes.items },
     ghost rooted: { Rooted nodes.items operators.items },
     ghost aimed: { aims nodes.items goal ≡ true },
+    ghost marked: { Marks named.marks (names (value n start nodes.items operators.items goal)) },
     ghost once: { Once (names (value n start nodes.items operators.items goal)) },
 }

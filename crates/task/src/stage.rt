@@ -1,11 +1,13 @@
 //! The order of the records of a task's paper.
 ghost use Rattle.std.specs.Prelude.{◌≡◌};
-ghost use Rattle.task.specs.Stages.{stage_after, records_in};
+ghost use Rattle.records.specs.Cuts.{split};
+ghost use Rattle.task.specs.Stages.{stage_step, records_in};
 
-use records::{RecordFault, cut_record};
+use crate::kind::Kind;
+use records::{Cut, LONGEST, RecordFault, Records};
 
 /// Which records may come next.
-#[derive(Clone, Copy)]
+#[derive(Clone, Copy, Debug, PartialEq, Eq)]
 pub enum Stage {
     Header,
     Nodes,
@@ -14,21 +16,24 @@ pub enum Stage {
 }
 
 impl Stage {
-    /// The stage after a record of this kind, with so long a body.
-    fn after(self, kind: u16, size: usize, at: usize) -> Result<Stage, RecordFault>
-        ensures { result ≡ stage_after self kind size at }
+    /// The stage after this record, whose body has the length that suits its kind.
+    fn after(self, cut: Cut<'_>) -> Result<Stage, RecordFault>
+        ensures { result ≡ stage_step cut.entry.at (split cut.entry.kind cut.entry.body.now cut.entry.rest.now) self }
     {
-        let (next, fits) = match (self, kind) {
-            (Stage::Header, 1) => (Stage::Nodes, size == 9),
-            (Stage::Nodes, 2) => (Stage::Nodes, size == 5),
-            (Stage::Nodes | Stage::Operators, 3) => (Stage::Operators, size == 12 || size == 4),
-            (Stage::Nodes | Stage::Operators, 4) => (Stage::Done, size == 2),
+        let at = cut.at;
+        let size = cut.body.len();
+        let kind = Kind::try_from(cut)?;
+        let next = match (self, kind) {
+            (Stage::Header, Kind::Header) | (Stage::Nodes, Kind::Node) => Stage::Nodes,
+            (Stage::Nodes | Stage::Operators, Kind::Operator) => Stage::Operators,
+            (Stage::Nodes | Stage::Operators, Kind::Goal) => Stage::Done,
             _ => return Err(RecordFault::WrongKind { at }),
         };
-        if fits {
-            Ok(next)
-        } else {
-            Err(RecordFault::WrongLength { at })
+        match (kind, size) {
+            (Kind::Header, 9) | (Kind::Node, 5) | (Kind::Operator, 4 | 12) | (Kind::Goal, 2) => {
+                Ok(next)
+            }
+            _ => Err(RecordFault::WrongLength { at }),
         }
     }
 }
@@ -37,20 +42,15 @@ impl Stage {
 pub(crate) fn check_records(paper: &[u8]) -> Result<(), RecordFault>
     ensures { result ≡ records_in paper.now }
 {
-    if paper.len() > 65_536 {
+    if paper.len() > LONGEST {
         return Err(RecordFault::TooLong);
     }
     let mut stage = Stage::Header;
-    let mut at = 0;
-    let mut rest = paper;
-    while !rest.is_empty() {
-        let record = cut_record(rest, at)?;
-        stage = stage.after(record.kind, record.body.len(), at)?;
-        at += 6 + record.body.len();
-        rest = record.rest;
+    for record in Records::of(paper) {
+        stage = stage.after(record?)?;
     }
     match stage {
         Stage::Done => Ok(()),
-        _ => Err(RecordFault::CutShort { at }),
+        _ => Err(RecordFault::CutShort { at: paper.len() }),
     }
 }

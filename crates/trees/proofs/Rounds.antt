@@ -1,9 +1,7 @@
 -- One tree after another.
-use Rattle.std.proofs.Common.{◌≡◌, ℕ, suc, ◌+◌, ◌-◌, ◌<◌, ◌≤◌, Bool, cond, ltb, List, length, Ok, Err, Result, sym, ap, ◌∙◌, arith}
-use Rattle.std.proofs.lemmas.Bool.{cond-true, cond-false, lt-ltb, le-ltb}
+use Rattle.std.proofs.Common.{◌≡◌, ℕ, suc, ◌+◌, ◌-◌, ◌<◌, Bool, List, Ok, Err, Result, sym, ap, ◌∙◌, arith}
 use Rattle.logic.specs.Partial.{PartialState, free_count}
 use Rattle.trees.specs.declared.fault.TreeFault.{TreeFault}
-use Rattle.trees.specs.declared.fault.TreeFault.TheVariants.{Trailing}
 use Rattle.records.specs.Single.{and_then}
 use Rattle.trees.specs.Check.{tree_at, trees_from}
 
@@ -21,13 +19,3 @@ module _ (settles : ℕ → PartialState → Bool) (body : List ℕ) (c : Partia
 
     pub round_goes : (m : ℕ) → tree_at (settles rule) body (free_count c) at c ≡ Ok m → trees_from settles body c (count - (rule + 1)) (rule + 1) m ≡ whole
     round_goes m was = sym (on ∙ ap (λ q. and_then q (trees_from settles body c (count - (rule + 1)) (rule + 1))) was)
-
-  module _ (h : count ≤ rule) where
-    done : whole ≡ cond (ltb at (length body)) (Err (Trailing at)) (Ok tt)
-    done = let none : count - rule ≡ 0 = omega arith in sym inv ∙ ap (λ k. trees_from settles body c k rule at) none
-
-    pub round_trails : at < length body → Err (Trailing at) ≡ whole
-    round_trails k = sym (done ∙ cond-true _ _ _ (lt-ltb at (length body) k))
-
-    pub round_ends : length body ≤ at → Ok tt ≡ whole
-    round_ends k = sym (done ∙ cond-false _ _ _ (le-ltb at (length body) k))

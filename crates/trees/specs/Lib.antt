@@ -1,3 +1,4 @@
+pub mod Faults
 pub mod Tree
 pub mod Check
 pub mod Covers

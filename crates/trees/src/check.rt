@@ -11,6 +11,7 @@ use crate::fault::TreeFault;
 use crate::rules::LeafRules;
 use logic::cube::Cube;
 
+// Kept: body and rules as parameters of all three; a struct of the two would hold them for one call, and is no plainer.
 /// Checks the tree of a cube that begins at `at`, and answers where it ends; the cube's free variables fall.
 fn check_tree<L: LeafRules>(
     body: &[u8],
@@ -22,21 +23,22 @@ fn check_tree<L: LeafRules>(
     ensures value { result ≡ tree_at (L.LeafRules.settles rules.now rule) body.now (free_count (partial cube)) at (partial cube) }
     ensures bound { IfOk result (λ n. n ≤ length body.now) }
 {
-    let Some(byte) = body.get(at) else {
+    let Some(&byte) = body.get(at) else {
         return Err(TreeFault::BadByte { at });
     };
-    if *byte == 0xFF {
+    // Kept: a number, since it is asked in this one line; an enum would be made and taken apart here.
+    if byte == 0xFF {
         return if rules.is_settled(rule, &cube) {
             Ok(at + 1)
         } else {
             Err(TreeFault::Unsettled { at })
         };
     }
-    let Some(halves) = cube.split(*byte) else {
+    let Some((low, high)) = cube.split(byte) else {
         return Err(TreeFault::BadByte { at });
     };
-    let middle = check_tree(body, at + 1, halves.0, rules, rule)?;
-    check_tree(body, middle, halves.1, rules, rule)
+    let middle = check_tree(body, at + 1, low, rules, rule)?;
+    check_tree(body, middle, high, rules, rule)
 }
 
 /// Checks one tree after another, for each rule below `count`, and then the end.

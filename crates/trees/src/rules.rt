@@ -6,6 +6,7 @@ ghost use Rattle.logic.specs.Views.{partial};
 use logic::cube::Cube;
 
 /// The rules of a proof's trees, one for each, by their numbers.
+// Kept: a trait over numbers, by which the theorems count the trees; an `impl Fn` would put a `requires` on `check_body`.
 pub trait LeafRules {
     ghost settles: { Self → ℕ → PartialState → Bool };
 

@@ -26,16 +26,10 @@ impl Cube {
     pub fn truth_of(&self, v: u8) -> Truth
         ensures { result ≡ truth (partial self.now) v }
     {
-        if v >= self.width {
+        if v >= self.width || !has(self.known, v) {
             return Truth::Open;
         }
-        if !has(self.known, v) {
-            Truth::Open
-        } else if has(self.value, v) {
-            Truth::True
-        } else {
-            Truth::False
-        }
+        Truth::from(has(self.value, v))
     }
 
     /// Whether `v` is a variable of the width that the cube leaves free.

@@ -1,7 +1,7 @@
 //! Making cubes: all states, one state, the halves of a split, a variable freed, a change applied.
 ghost use Rattle.std.specs.Prelude.{◌≡◌, ℕ, ◌%◌, ◌^◌, ◌<◌, ◌≤◌, true, false, MatchOption};
 ghost use Rattle.logic.specs.declared.truth.Truth.{Truth};
-ghost use Rattle.logic.specs.Masks.{Stands};
+ghost use Rattle.logic.specs.Masks.{Alters};
 ghost use Rattle.logic.specs.Partial.{whole, single, is_free, lower, upper, freed, changed};
 ghost use Rattle.logic.specs.Views.{partial};
 
@@ -74,7 +74,7 @@ impl Cube {
 
     /// The cube after a change: a variable is true if it is set, or was true and is not cleared.
     pub fn apply(&self, change: &Change) -> Cube
-        ensures { (s k : ℕ → Truth) → Stands change.now.set s → Stands change.now.clear k → partial result ≡ changed (partial self.now) s k }
+        ensures { (s k : ℕ → Truth) → Alters change.now s k → partial result ≡ changed (partial self.now) s k }
     {
         let full = ones(self.width);
         let value = (change.set.must | self.value & !change.clear.may) & full;

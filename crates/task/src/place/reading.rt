@@ -1,22 +1,22 @@
 //! Reading a task from its paper.
-ghost use Rattle.std.specs.Prelude.{◌≡◌, [], IfOk, Err, OnOk};
-ghost use Rattle.formulas.specs.Marks.{Marks};
-ghost use Rattle.task.specs.Values.{blank, names};
+ghost use Rattle.std.specs.Prelude.{◌≡◌, IfOk, Err};
+ghost use Rattle.task.specs.Values.{blank};
 ghost use Rattle.task.specs.declared.faults.TaskFault.TheVariants.{Record};
 ghost use Rattle.task.specs.Held.{value_of};
 ghost use Rattle.task.specs.Sound.{Sound};
 ghost use Rattle.task.specs.Stages.{records_in};
-ghost use Rattle.task.specs.Contents.{begun, node_added, operator_added, goal_added, content_of, contents_in, task_in, verdict, held, Agrees, Named};
+ghost use Rattle.task.specs.Contents.{begun, node_added, operator_added, goal_added, content_of, contents_in, task_in, verdict, held, Agrees};
 
-use crate::entries::{Header, Operator, header_in, node_in, number_in, operator_in};
+use crate::entries::{Header, Operator, node_in, number_in};
 use crate::faults::TaskFault;
+use crate::kind::Kind;
 use crate::place::Task;
 use crate::stage::check_records;
 use formulas::names::Names;
 use formulas::node::Node;
 use formulas::rules::{is_effect, is_formula, may_follow};
 use logic::state::is_state;
-use records::{RecordFault, cut_record};
+use records::{Cut, RecordFault, Records};
 use std::alloc::{AllocError, Global};
 
 /// The most nodes and the most operators of a task.
@@ -37,6 +37,7 @@ impl Task {
             nodes,
             operators,
             goal: None,
+            named: Names::none(),
         })
     }
 
@@ -49,12 +50,12 @@ impl Task {
         self.nodes.clear();
         self.operators.clear();
         self.goal = None;
+        self.named = Names::none();
     }
 
     /// Begins the task that a header announces.
     fn begin(&mut self, header: Header, at: usize) -> Result<(), TaskFault>
-        ensures task { Agrees (begun at header) (value_of self.new) result }
-        ensures unnamed { OnOk result (names (value_of self.new) ≡ []) }
+        ensures { Agrees (begun at header) (value_of self.new) result }
     {
         if header.n == 0 || header.n > 64 || !is_state(header.n, header.start) {
             return Err(TaskFault::Header { at });
@@ -64,16 +65,10 @@ impl Task {
         self.start = header.start;
         Ok(())
     }
+
     /// Takes in one node more; none is a node that was written wrongly.
-    fn push_node(
-        &mut self,
-        node: Option<Node>,
-        named: &mut Names,
-        at: usize,
-    ) -> Result<(), TaskFault>
-        requires { Marks named.old.marks (names (value_of self.old)) }
-        ensures task { Agrees (node_added at (value_of self.old) node) (value_of self.new) result }
-        ensures marks { Named named.new.marks (value_of self.new) result }
+    fn push_node(&mut self, node: Option<Node>, at: usize) -> Result<(), TaskFault>
+        ensures { Agrees (node_added at (value_of self.old) node) (value_of self.new) result }
     {
         if self.nodes.len() >= NODES {
             return Err(TaskFault::TooMany { at });
@@ -84,7 +79,7 @@ impl Task {
         if !may_follow(self.n, &self.nodes, node) {
             return Err(TaskFault::BadNode { at });
         }
-        if !named.claim_children(node) {
+        if !self.named.claim_children(node) {
             return Err(TaskFault::NamedTwice { at });
         }
         self.nodes.push_reserved(node);
@@ -92,15 +87,8 @@ impl Task {
     }
 
     /// Takes in one operator more.
-    fn push_operator(
-        &mut self,
-        operator: Operator,
-        named: &mut Names,
-        at: usize,
-    ) -> Result<(), TaskFault>
-        requires { Marks named.old.marks (names (value_of self.old)) }
-        ensures task { Agrees (operator_added at (value_of self.old) operator) (value_of self.new) result }
-        ensures marks { Named named.new.marks (value_of self.new) result }
+    fn push_operator(&mut self, operator: Operator, at: usize) -> Result<(), TaskFault>
+        ensures { Agrees (operator_added at (value_of self.old) operator) (value_of self.new) result }
     {
         if self.operators.len() >= OPERATORS {
             return Err(TaskFault::TooMany { at });
@@ -110,7 +98,10 @@ impl Task {
         {
             return Err(TaskFault::BadNode { at });
         }
-        if !named.claim_both(operator.precondition, operator.effect) {
+        if !self
+            .named
+            .claim_both(operator.precondition, operator.effect)
+        {
             return Err(TaskFault::NamedTwice { at });
         }
         self.operators.push_reserved(operator);
@@ -118,10 +109,8 @@ impl Task {
     }
 
     /// Takes in the goal, which comes once.
-    fn set_goal(&mut self, goal: u16, named: &mut Names, at: usize) -> Result<(), TaskFault>
-        requires { Marks named.old.marks (names (value_of self.old)) }
-        ensures task { Agrees (goal_added at (value_of self.old) self.old.goal goal) (value_of self.new) result }
-        ensures marks { Named named.new.marks (value_of self.new) result }
+    fn set_goal(&mut self, goal: u16, at: usize) -> Result<(), TaskFault>
+        ensures { Agrees (goal_added at (value_of self.old) self.old.goal goal) (value_of self.new) result }
     {
         if self.goal.is_some() {
             return Err(TaskFault::Record(RecordFault::WrongKind { at }));
@@ -129,28 +118,23 @@ impl Task {
         if !is_formula(&self.nodes, goal) {
             return Err(TaskFault::BadNode { at });
         }
-        if !named.claim(goal) {
+        if !self.named.claim(goal) {
             return Err(TaskFault::NamedTwice { at });
         }
         self.goal = Some(goal);
         Ok(())
     }
+
     /// Takes in what one record says.
-    fn put(&mut self, kind: u16, body: &[u8], named: &mut Names, at: usize) -> Result<(), TaskFault>
-        requires { Marks named.old.marks (names (value_of self.old)) }
-        ensures task { Agrees (content_of at kind body.now (value_of self.old)) (value_of self.new) result }
-        ensures marks { Named named.new.marks (value_of self.new) result }
+    fn put(&mut self, cut: Cut<'_>) -> Result<(), TaskFault>
+        ensures { Agrees (content_of cut.entry.at cut.entry.kind cut.entry.body.now (value_of self.old)) (value_of self.new) result }
     {
-        match kind {
-            1 => {
-                self.begin(header_in(body, at)?, at)?;
-                *named = Names::none();
-                Ok(())
-            }
-            2 => self.push_node(node_in(body, at)?, named, at),
-            3 => self.push_operator(operator_in(body, at)?, named, at),
-            4 => self.set_goal(number_in(body, at)?, named, at),
-            _ => Err(TaskFault::Record(RecordFault::WrongKind { at })),
+        let at = cut.at;
+        match Kind::try_from(cut)? {
+            Kind::Header => self.begin(Header::try_from(cut)?, at),
+            Kind::Node => self.push_node(node_in(cut)?, at),
+            Kind::Operator => self.push_operator(Operator::try_from(cut)?, at),
+            Kind::Goal => self.set_goal(number_in(cut)?, at),
         }
     }
 
@@ -159,14 +143,8 @@ impl Task {
         requires { value_of self.old ≡ blank }
         ensures { Agrees (contents_in paper.now) (value_of self.new) result }
     {
-        let mut named = Names::none();
-        let mut at = 0;
-        let mut rest = paper;
-        while !rest.is_empty() {
-            let record = cut_record(rest, at)?;
-            self.put(record.kind, record.body, &mut named, at)?;
-            at += 6 + record.body.len();
-            rest = record.rest;
+        for record in Records::of(paper) {
+            self.put(record?)?;
         }
         Ok(())
     }

@@ -10,7 +10,7 @@ ghost use Rattle.task.specs.Sound.{Sound};
 
 use crate::entries::Operator;
 use crate::place::Task;
-use crate::stepping::Step;
+use crate::stepping::{Arrival, StepFault};
 use formulas::effects::successor;
 use formulas::node::Node;
 use formulas::table::{NodeTable, value};
@@ -24,10 +24,7 @@ impl NodeTable for Task {
     ghost ordered = { ordered_of };
 
     fn node(&self, at: usize) -> Node {
-        match self.nodes.get(at) {
-            Some(node) => *node,
-            None => Node::False,
-        }
+        *self.nodes.get(at).unwrap_or(&Node::False)
     }
 }
 
@@ -67,10 +64,7 @@ impl Task {
     pub fn operator(&self, number: usize) -> Option<Operator>
         ensures { result ≡ slice_get (value_of self.now).operators number }
     {
-        if number >= self.operators.len() {
-            return None;
-        }
-        Some(self.operators[number])
+        self.operators.get(number).copied()
     }
 
     /// The goal's node, if there is one; no goal is one that never holds.
@@ -84,36 +78,30 @@ impl Task {
     pub fn states(&self) -> Cube
         ensures { partial result ≡ whole (model self.now).variables }
     {
-        match Cube::all(self.n) {
-            Some(cube) => cube,
-            None => unreachable(),
-        }
+        Cube::all(self.n).unwrap()
     }
 
     /// Tries an operator in a state.
-    pub fn step(&self, number: u16, state: u64) -> Step
+    pub fn step(&self, number: u16, state: u64) -> Result<Arrival, StepFault>
         ensures { result ≡ stepped (model self.now) state number }
     {
-        let number = number as usize;
-        if number >= self.operators.len() {
-            return Step::Missing;
-        }
-        let operator = self.operators[number];
+        let operator = self.operator(number as usize).ok_or(StepFault::Missing)?;
         let cube = self.states().at(state);
         if !value(self, operator.precondition as usize, &cube).is_true() {
-            return Step::Inapplicable;
+            return Err(StepFault::Inapplicable);
         }
-        Step::To {
+        Ok(Arrival {
             state: successor(self, operator.effect as usize, &cube).values(),
             minutes: operator.minutes,
             crew: operator.crew,
-        }
+        })
     }
 
     /// Whether the goal holds in a state.
     pub fn at_goal(&self, state: u64) -> bool
         ensures { result ≡ arrived (model self.now) state }
     {
+        // Kept: with `is_some_and` the proof, which goes by the arms, was tried and did not close.
         match self.goal {
             None => false,
             Some(goal) => value(self, goal as usize, &self.states().at(state)).is_true(),

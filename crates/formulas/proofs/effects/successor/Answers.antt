@@ -13,7 +13,7 @@ returns g c =
     let wide = g.N.NodeTable.wide c.args.nodes.now in
     let effect = effect_at nodes c.args.at in
     let cube = partial c.args.cube.now in
-    let is : partial c.apply.result ≡ successor effect cube = c.apply.ensures _ _ c.change_at.ensures.set c.change_at.ensures.clear in
+    let is : partial c.apply.result ≡ successor effect cube = c.apply.ensures _ _ c.change_at.ensures in
     record {
       value = is;
       states = λ s i. subst (λ (r : PartialState). In r (result cube.width effect s)) (sym is) (successor_has effect cube s i);

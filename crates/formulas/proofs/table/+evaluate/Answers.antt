@@ -1,11 +1,7 @@
-use Rattle.std.proofs.Common.{sym, ap, ◌∙◌, ap₂, arith}
+use Rattle.std.proofs.Common.{sym, ap, ◌∙◌, ap₂}
 use Rattle.logic.specs.Kleene.{not3, and3, or3}
-use Rattle.formulas.proofs.Decoded.{kleene_is, not_below}
+use Rattle.formulas.proofs.Decoded.{kleene_is}
 use Rattle.formulas.proofs.table.+evaluate.Goals as goal
-
-pub evaluate-requires : goal.evaluate-requires
-evaluate-requires g t c κs within =
-    let low = not_below _ _ (g.N.NodeTable.ordered c.args.nodes.now) c.args.at c.in-Not.a c.in-Not.ensures in (omega arith, within)
 
 pub returns-in-Not : goal.returns-in-Not
 returns-in-Not g t c =

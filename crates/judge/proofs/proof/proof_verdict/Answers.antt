@@ -1,25 +1,11 @@
-use Rattle.std.proofs.Common.{◌≡◌, suc, ◌+◌, ◌^◌, ◌<◌, ap, ◌∙◌, add-one, arith}
+use Rattle.std.proofs.Common.{◌≡◌, suc, ◌+◌, ap, ◌∙◌, add-one}
 use Rattle.std.proofs.lemmas.Result.{err_from_is_err_and}
 use Rattle.records.specs.Cuts.{seen}
 use Rattle.logic.specs.Views.{partial}
-use Rattle.task.specs.Held.{model, value_of}
-use Rattle.task.proofs.Running.{length_actions}
+use Rattle.task.specs.Held.{model}
 use Rattle.judge.specs.Verdict.{tree_count}
-use Rattle.judge.proofs.Judged.{start_refused, trees_refused, trees_passed}
+use Rattle.judge.proofs.Judged.{trees_refused, trees_passed}
 use Rattle.judge.proofs.proof.proof_verdict.Goals as goal
-
-pub returns-then-not-holds_start : goal.returns-then-not-holds_start
-returns-then-not-holds_start g c =
-    start_refused (model c.args.task.now) (g.S.StateSet.answer c.args.set.now) c.args.paper.now c.in_ok-body.body.now (seen c.single.result) c.single.ensures.value
-    (ap seen c.in_ok-body.was) c.holds_start.result c.holds_start.ensures c.if-not-holds_start.true
-
-pub overflow_add-operator_count : goal.overflow_add-operator_count
-overflow_add-operator_count g c =
-    let v = value_of c.args.task.now in
-    let few = c.operator_count.ensures.rules.few_operators in
-    let count = c.operator_count.ensures.count in
-    let fits : c.operator_count.result + 1 < 2 ^ 64 = omega (arith, few, count, length_actions v.nodes v.operators) in
-    record { fits = fits }
 
 pub returns-in_err-check_body : goal.returns-in_err-check_body
 returns-in_err-check_body g c =

@@ -1,12 +1,10 @@
-use Rattle.std.proofs.Common.{◌<◌, length, sym, rules}
-use Rattle.records.proofs.Turns.{begun, steps}
+use Rattle.std.proofs.Common.{Some, sym, subst}
+use Rattle.records.specs.Walks.{Gives}
+use Rattle.records.proofs.Turns.{onward}
 use Rattle.task.proofs.stage.check_records.Goals as goal
 
-pub loop-rest-init : goal.loop-rest-init
-loop-rest-init c = begun _ _ _ _
-
-pub loop-rest-preserved : goal.loop-rest-preserved
-loop-rest-preserved c =
-    let some : 0 < length c.loop-rest.rest.now = search rules in
-    let cut = c.in_ok-record.ensures in
-    steps _ _ _ _ c.loop-rest.invariant some _ (sym cut.value) _ (sym c.in_ok-stage.ensures) cut.sizes
+pub loop-record-preserved : goal.loop-record-preserved
+loop-record-preserved c =
+    let w = c.loop-record.record-iterator in
+    let t = c.next.new.self in
+    (tt, tt, onward _ _ _ _ c.loop-record.invariant.2 (subst (λ x. Gives w (Some x) t) c.in_ok-record.was c.in-Some.ensures.steps) _ (sym c.in_ok-stage.ensures))

@@ -1,6 +1,6 @@
 use Rattle.std.proofs.lemmas.Result.{err_from_is_err_and}
 use Rattle.logic.specs.Views.{partial}
-use Rattle.trees.proofs.Rounds.{round_fails, round_goes, round_trails, round_ends}
+use Rattle.trees.proofs.Rounds.{round_fails, round_goes}
 use Rattle.trees.proofs.check.check_trees.Goals as goal
 use Rattle.std.proofs.Common.{sym, ◌∙◌}
 
@@ -14,11 +14,3 @@ pub loop-rule-preserved : goal.loop-rule-preserved
 loop-rule-preserved g c =
     round_goes (g.L.LeafRules.settles c.args.rules.now) c.args.body.now (partial c.args.space) c.args.count c.loop-rule.rule c.loop-rule.at _ c.loop-rule.invariant
     c.loop-rule-test.true c.in_ok-at.at (sym c.check_tree.ensures.value ∙ c.in_ok-at.was)
-
-pub returns-then-at-body : goal.returns-then-at-body
-returns-then-at-body g c =
-    round_trails (g.L.LeafRules.settles c.args.rules.now) c.args.body.now (partial c.args.space) c.args.count c.loop-rule.rule c.loop-rule.at _ c.loop-rule.invariant c.loop-rule-test.false c.if-at-body.true
-
-pub returns : goal.returns
-returns g c =
-    round_ends (g.L.LeafRules.settles c.args.rules.now) c.args.body.now (partial c.args.space) c.args.count c.loop-rule.rule c.loop-rule.at _ c.loop-rule.invariant c.loop-rule-test.false c.if-at-body.false

@@ -5,7 +5,7 @@ use Rattle.card.proofs.Completeness.{completes}
 use Rattle.card.proofs.Laws.{keeps_opened}
 use Rattle.card.proofs.card.Card.open.Goals as goal
 
-pub returns : goal.returns
-returns g c =
+pub returns-clause-law : goal.returns-clause-law
+returns-clause-law g c =
     let t = c.args.task in
-    record { after = refl; law = keeps_opened g.C.Cost.ordered t _ refl (completes (model t) (well_formed t) t.width) }
+    keeps_opened g.C.Cost.ordered t _ refl (completes (model t) (well_formed t) t.width)

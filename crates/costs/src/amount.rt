@@ -1,0 +1,71 @@
+//! Costs that are numbers.
+ghost use Rattle.std.specs.Prelude.{◌≡◌, ℕ, Option, Some, decimal};
+ghost use Rattle.costs.specs.Kinds.{counted, counted_ordered, counted_compared};
+
+use crate::cost::Cost;
+use std::fmt;
+use std::marker::PhantomData;
+
+/// What is counted, and how two counts are put together.
+pub trait Quantity {
+    /// The count of an operator that takes these minutes and this crew.
+    ghost one: { ℕ → ℕ → ℕ };
+
+    /// Both counts together, unless they are refused.
+    ghost together: { ℕ → ℕ → Option ℕ };
+
+    /// The count of an operator that takes these minutes and this crew.
+    fn of(minutes: u32, crew: u32) -> u32
+        ensures { result ≡ one minutes crew };
+
+    /// Both counts together, or a refusal where no count is large enough.
+    fn join(first: u32, second: u32) -> Option<u32>
+        ensures { result ≡ together first second };
+}
+
+/// A cost that counts a quantity.
+#[derive_where(Clone, Copy, PartialEq, Eq, PartialOrd, Ord)]
+pub struct Amount<Q> {
+    pub count: u32,
+    pub of: PhantomData<Q>,
+}
+
+impl<Q> From<u32> for Amount<Q> {
+    ghost from_gives = { λ x y. y.count ≡ x };
+
+    fn from(count: u32) -> Amount<Q> {
+        Amount {
+            count,
+            of: PhantomData,
+        }
+    }
+}
+
+impl<Q: Quantity> Cost for Amount<Q> {
+    ghost kind = { counted Q.one Q.together };
+
+    ghost ordered = { counted_ordered Q.one Q.together };
+
+    ghost compared = { counted_compared };
+
+    fn zero() -> Amount<Q> {
+        Amount::from(0)
+    }
+
+    fn of(minutes: u32, crew: u32) -> Amount<Q> {
+        Amount::from(Q::of(minutes, crew))
+    }
+
+    fn join(self, other: Amount<Q>) -> Option<Amount<Q>> {
+        let count = Q::join(self.count, other.count)?;
+        Some(Amount::from(count))
+    }
+}
+
+impl<Q> fmt::Display for Amount<Q> {
+    ghost output = { λ cost. Some (decimal cost.count) };
+
+    fn fmt<W: fmt::Write>(&self, f: &mut fmt::Formatter<W>) -> fmt::Result {
+        write!(f, "{}", self.count)
+    }
+}
