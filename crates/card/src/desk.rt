@@ -25,6 +25,7 @@ pub enum Call<'a, S> {
 }
 
 /// What a call was answered.
+// Kept: three answers by name, where a `Result` of an `Option` would say the same with two unnamed cases.
 #[derive(Clone, Copy)]
 pub enum Reply<C> {
     /// A plan, a step, a finish or a proof was judged.

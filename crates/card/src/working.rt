@@ -54,7 +54,7 @@ impl<C: Cost> Desk<C> {
     ) -> (Desk<C>, Result<Vec<Reply<C>>, AllocError>)
         ensures { (m : Model) (h : History C) → Stands C.Cost.kind m h self → MatchResult result.1 (λ replies. Works C.Cost.kind S.StateSet.answer m calls.now replies.items h result.0) (λ _. result.0 ≡ self) }
     {
-        // Kept: each call moves the desk on and an error hands it back, which a closure of a chain and `?` cannot do.
+        // Kept: a `match`, since `?` cannot hand the desk back; a row of answers, since a closure for each would ask a `requires`.
         let mut replies = match Vec::with_capacity(heap, calls.len()) {
             Ok(replies) => replies,
             Err(error) => return (self, Err(error)),

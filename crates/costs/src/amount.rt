@@ -62,6 +62,7 @@ impl<Q: Quantity> Cost for Amount<Q> {
     }
 }
 
+// Kept: by hand, since its contract says what is printed, and no derive gives one.
 impl<Q> fmt::Display for Amount<Q> {
     ghost output = { λ cost. Some (decimal cost.count) };
 

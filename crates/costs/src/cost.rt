@@ -15,7 +15,7 @@ pub trait Cost: Copy + Ord {
     fn zero() -> Self
         ensures { result ≡ kind.zero };
 
-    // Kept: two numbers; a struct of them would need a crate of its own below tasks and costs, which know nothing of each other.
+    // Kept: two numbers, as an operator's record has them; a struct would make tasks depend on costs for two fields.
     /// The cost of an operator that takes these minutes and this crew.
     fn of(minutes: u32, crew: u32) -> Self
         ensures { result ≡ kind.one minutes crew };

@@ -40,6 +40,7 @@ impl<A: Cost, B: Cost> Cost for Pair<A, B> {
     }
 }
 
+// Kept: by hand, since its contract says what is printed, and no derive gives one.
 impl<A: fmt::Display, B: fmt::Display> fmt::Display for Pair<A, B> {
     ghost output = { λ cost. parted (A.Display.output cost.first) (B.Display.output cost.second) };
 

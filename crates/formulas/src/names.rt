@@ -42,7 +42,7 @@ impl Names {
         let Some(&named) = self.marks.get(number) else {
             return false;
         };
-        // Kept: written by its index, since the prover knows no element of a slice after a write through `get_mut`.
+        // Kept: tried with `get_mut`, and the proof did not close: no element is known after a write through it.
         self.marks[number] = true;
         !named
     }

@@ -30,7 +30,7 @@ impl TryFrom<[u8; 5]> for Node {
 
     ghost try_from_gives = { λ entry r. r ≡ written entry };
 
-    // Kept: matched by tag and operands; a match on the five bytes made the answers of a formula set take twice as long.
+    // Kept: tried as one match on the five bytes, with which a formula's longest proof (oracle/bench) took twice as long.
     fn try_from([tag, a0, a1, b0, b1]: [u8; 5]) -> Result<Node, NoNode> {
         let a = u16::from_le_bytes([a0, a1]);
         let b = u16::from_le_bytes([b0, b1]);

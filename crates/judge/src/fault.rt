@@ -54,7 +54,7 @@ impl Fault for ProofFault {
     }
 }
 
-// Kept: by hand, since contracts name the variant and a derived `From` has no contract.
+// Kept: by hand, a public conversion with a contract; a derived `From` has none.
 impl From<RecordFault> for ProofFault {
     ghost from_gives = { λ x y. y ≡ Record x };
 
@@ -63,7 +63,7 @@ impl From<RecordFault> for ProofFault {
     }
 }
 
-// Kept: by hand, since contracts name the variant and a derived `From` has no contract.
+// Kept: by hand, a public conversion with a contract; a derived `From` has none.
 impl From<TreeFault> for ProofFault {
     ghost from_gives = { λ x y. y ≡ Tree x };
 

@@ -9,6 +9,7 @@ use logic::truth::Truth;
 use sets::set::StateSet;
 
 /// How a layer joins two sets.
+// Kept: an enum beside the types `Both` and `Either` of sets, since a line of a script chooses at run time.
 #[derive(Clone, Copy, PartialEq, Eq, Debug)]
 pub enum Connective {
     Meeting,

@@ -79,7 +79,7 @@ impl Fault for PlanFault {
     }
 }
 
-// Kept: by hand, since contracts name the variant and a derived `From` has no contract.
+// Kept: by hand, a public conversion with a contract; a derived `From` has none.
 impl From<RecordFault> for PlanFault {
     ghost from_gives = { λ x y. y ≡ Record x };
 

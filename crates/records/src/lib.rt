@@ -25,6 +25,7 @@ pub enum Layer {
     Proof,
 }
 
+// Kept: by hand, since its contract says what is printed, and no derive gives one.
 impl fmt::Display for Layer {
     ghost output = { λ layer. Some (word_of layer) };
 

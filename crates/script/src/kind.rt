@@ -30,6 +30,7 @@ impl FromStr for Measure {
     }
 }
 
+// Kept: by hand, since its contract says what is printed, and no derive gives one.
 impl fmt::Display for Measure {
     ghost output = { λ measure. Some (measure_name measure) };
 
@@ -63,6 +64,7 @@ impl FromStr for KindWords {
     }
 }
 
+// Kept: by hand, since its contract says what is printed, and no derive gives one.
 impl fmt::Display for KindWords {
     ghost output = { λ kind. Some (kind_name kind) };
 

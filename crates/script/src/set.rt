@@ -7,7 +7,7 @@ use std::alloc::Global;
 use std::slice;
 use std::str::FromStr;
 
-// Kept: words of the language, apart from the sets that they stand for: this crate reads lines and knows no set.
+// Kept: words of the language, apart from the sets that they stand for: this crate reads lines, and depends on no other here.
 /// The sorts of papers that hold a set.
 #[derive(Clone, Copy)]
 pub enum SetPaper {

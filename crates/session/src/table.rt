@@ -32,6 +32,7 @@ impl<C: Cost> Drop for OpenCard<C> {
 
 impl<C: Cost> OpenCard<C> {
     /// Works one call.
+    // Kept: a row of one, since the project wants the law over rows of calls in the contract of the call that the program makes.
     fn work(
         self,
         heap: Global,
@@ -130,7 +131,6 @@ impl<C: Cost + Display> Table<'_, C> {
     // Kept: the name beside the call, as each is made; a match from calls to names would be six lines more.
     fn work_call(&mut self, what: &str, call: Call<'_, LayeredSet<'_>>) -> Result<(), Stop> {
         let card = self.card.take().ok_or(Stop::NoCard)?;
-        // Kept: a row of one call, so that the law over rows of calls stands in the contract of the call that the program makes.
         let (card, replies) = card.work(self.rt.alloc(), &call);
         self.card = Some(card);
         for reply in &replies? {

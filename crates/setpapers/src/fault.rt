@@ -20,7 +20,7 @@ pub enum SetFault {
     BadEntry { entry: usize },
 }
 
-// Kept: by hand, since contracts name the variant and a derived `From` has no contract.
+// Kept: by hand, a public conversion with a contract; a derived `From` has none.
 impl From<RecordFault> for SetFault {
     ghost from_gives = { λ cause fault. fault ≡ InRecord cause };
 

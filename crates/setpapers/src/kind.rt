@@ -15,7 +15,7 @@ use logic::truth::Truth;
 use records::PaperKind;
 
 /// A kind of set paper: its entries, the rule of each, and the set that they stand for.
-// Kept: `entries` in each kind, of 8 bytes or of 5, since a constant of the trait cannot be the length of an array.
+// Kept: `entries` in each kind; a constant cannot be an array's length, and a parameter of the trait would stand at each use.
 pub trait SetKind {
     /// The bytes of one entry.
     type Entry;
@@ -23,10 +23,10 @@ pub trait SetKind {
     type Seen: Drop;
 
     // the kind of its papers
-    ghost paper: { KindOf };
+    ghost PAPER: { KindOf };
 
     // the fewest entries
-    ghost least: { ℕ };
+    ghost LEAST: { ℕ };
 
     // how many entries the bytes have
     ghost count: { List ℕ → ℕ };
@@ -53,12 +53,10 @@ pub trait SetKind {
     ghost meant: { (w : ℕ) (bs : List ℕ) → all (lawful w bs) (count bs) ≡ true → Laws w (has w bs) (λ c. at_width w c (says bs c)) };
 
     /// The kind of its papers.
-    fn paper() -> PaperKind
-        ensures { result ≡ paper };
+    const PAPER: PaperKind;
 
     /// The fewest entries.
-    fn least() -> usize
-        ensures { result ≡ least };
+    const LEAST: usize;
 
     /// The entries of a body.
     fn entries(body: &[u8]) -> &[Self::Entry]

@@ -39,9 +39,9 @@ impl SetKind for ListKind {
 
     type Seen = ();
 
-    ghost paper = { ListPaper };
+    ghost PAPER = { ListPaper };
 
-    ghost least = { 0 };
+    ghost LEAST = { 0 };
 
     ghost count = { states };
 
@@ -59,13 +59,9 @@ impl SetKind for ListKind {
 
     ghost meant = { list_laws };
 
-    fn paper() -> PaperKind {
-        PaperKind::List
-    }
+    const PAPER: PaperKind = PaperKind::List;
 
-    fn least() -> usize {
-        0
-    }
+    const LEAST: usize = 0;
 
     fn entries(body: &[u8]) -> &[[u8; 8]] {
         body.as_chunks::<8>().0

@@ -37,13 +37,13 @@ impl<'a, K: SetKind> Copy for ReadSet<'a, K> {}
 
 /// Whether the bytes are entries that keep the rules of their kind, and if not why.
 fn check<K: SetKind>(width: u8, body: &[u8]) -> Result<(), SetFault>
-    ensures { result ≡ verdict K.least (K.lawful width body.now) (K.count body.now) }
+    ensures { result ≡ verdict K.LEAST (K.lawful width body.now) (K.count body.now) }
 {
     let entries = K::entries(body);
     if entries.len() > 1024 {
         return Err(SetFault::TooMany);
     }
-    if entries.len() < K::least() {
+    if entries.len() < K::LEAST {
         return Err(SetFault::BadEntry { entry: 0 });
     }
     let mut seen = K::nothing_seen();
@@ -55,6 +55,7 @@ fn check<K: SetKind>(width: u8, body: &[u8]) -> Result<(), SetFault>
     Ok(())
 }
 
+// Kept: width and paper as two parameters; a struct of them would be made for one call.
 impl<'a, K: SetKind> ReadSet<'a, K> {
     /// The empty set of a width.
     pub fn empty(width: u8) -> ReadSet<'a, K>
@@ -71,10 +72,10 @@ impl<'a, K: SetKind> ReadSet<'a, K> {
     /// The set that a paper holds, where the paper lies.
     pub fn of(width: u8, paper: &'a [u8]) -> Result<ReadSet<'a, K>, SetFault>
         ensures width { IfOk result (λ s. s.width ≡ width) }
-        ensures body { MatchResult result (λ s. Ok s.body.now ≡ entries_in K.paper K.least K.lawful K.count width paper.now) (λ e. Err e ≡ entries_in K.paper K.least K.lawful K.count width paper.now) }
-        ensures rules { Found K.paper K.least K.count (K.rule width) paper.now (outcome result) }
+        ensures body { MatchResult result (λ s. Ok s.body.now ≡ entries_in K.PAPER K.LEAST K.lawful K.count width paper.now) (λ e. Err e ≡ entries_in K.PAPER K.LEAST K.lawful K.count width paper.now) }
+        ensures rules { Found K.PAPER K.LEAST K.count (K.rule width) paper.now (outcome result) }
     {
-        let body = single(paper, K::paper())?;
+        let body = single(paper, K::PAPER)?;
         check::<K>(width, body)?;
         let mut set = ReadSet::empty(width);
         set.body = body;
@@ -83,10 +84,10 @@ impl<'a, K: SetKind> ReadSet<'a, K> {
 
     /// Reads the set where its paper lies; after a refusal it is the empty set.
     pub fn read(&mut self, width: u8, paper: &'a [u8]) -> Result<(), SetFault>
-        ensures answer { result ≡ answered (entries_in K.paper K.least K.lawful K.count width paper.now) }
+        ensures answer { result ≡ answered (entries_in K.PAPER K.LEAST K.lawful K.count width paper.now) }
         ensures width { self.new.width ≡ width }
-        ensures body { self.new.body.now ≡ kept (entries_in K.paper K.least K.lawful K.count width paper.now) }
-        ensures rules { Found K.paper K.least K.count (K.rule width) paper.now result }
+        ensures body { self.new.body.now ≡ kept (entries_in K.PAPER K.LEAST K.lawful K.count width paper.now) }
+        ensures rules { Found K.PAPER K.LEAST K.count (K.rule width) paper.now result }
     {
         *self = ReadSet::empty(width);
         *self = ReadSet::of(width, paper)?;

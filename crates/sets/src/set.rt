@@ -9,6 +9,7 @@ use logic::cube::Cube;
 use logic::truth::Truth;
 
 /// Anything whose width, states and answers keep the laws of a set.
+// Kept: each `ask` tests the cube's width itself; a provided method around a second one would give every set two.
 pub trait StateSet {
     ghost wide: { Self → ℕ };
 

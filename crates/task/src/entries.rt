@@ -5,7 +5,6 @@ ghost use Rattle.task.specs.Entries.{header_in, operator_in, number_in, written_
 use formulas::node::Node;
 use records::{Cut, RecordFault};
 
-/// The number of variables, and the state at the start.
 /// How many variables there are, and the state at the start.
 #[derive(Clone, Copy, Debug, PartialEq, Eq)]
 pub struct Header {
@@ -40,10 +39,10 @@ impl TryFrom<Cut<'_>> for Header {
 pub(crate) fn node_in(cut: Cut<'_>) -> Result<Option<Node>, RecordFault>
     ensures { result ≡ written_in cut.entry.at cut.entry.body.now }
 {
-    let [tag, a0, a1, b0, b1] = cut.body else {
+    let Ok(entry) = <[u8; 5]>::try_from(cut.body) else {
         return Err(RecordFault::WrongLength { at: cut.at });
     };
-    Ok(Node::try_from([*tag, *a0, *a1, *b0, *b1]).ok())
+    Ok(Node::try_from(entry).ok())
 }
 
 /// Costs that are left out are 1.
@@ -75,8 +74,8 @@ impl TryFrom<Cut<'_>> for Operator {
 pub(crate) fn number_in(cut: Cut<'_>) -> Result<u16, RecordFault>
     ensures { result ≡ number_in cut.entry.at cut.entry.body.now }
 {
-    let [g0, g1] = cut.body else {
+    let Ok(number) = <[u8; 2]>::try_from(cut.body) else {
         return Err(RecordFault::WrongLength { at: cut.at });
     };
-    Ok(u16::from_le_bytes([*g0, *g1]))
+    Ok(u16::from_le_bytes(number))
 }

@@ -65,7 +65,7 @@ impl Fault for TaskFault {
     }
 }
 
-// Kept: by hand, since contracts name the variant and a derived `From` has no contract.
+// Kept: by hand, a public conversion with a contract; a derived `From` has none.
 impl From<RecordFault> for TaskFault {
     ghost from_gives = { λ x y. y ≡ Record x };
 

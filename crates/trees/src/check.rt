@@ -11,7 +11,7 @@ use crate::fault::TreeFault;
 use crate::rules::LeafRules;
 use logic::cube::Cube;
 
-// Kept: body and rules as parameters of all three; a struct of the two would hold them for one call, and is no plainer.
+// Kept: body and rules are lent for one call; a struct of them would be a type, an impl and a line to make it.
 /// Checks the tree of a cube that begins at `at`, and answers where it ends; the cube's free variables fall.
 fn check_tree<L: LeafRules>(
     body: &[u8],

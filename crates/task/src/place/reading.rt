@@ -66,6 +66,7 @@ impl Task {
         Ok(())
     }
 
+    // Kept: `at` beside what is taken in, here and below, since only a fault tells it; a struct of both would be made for one call.
     /// Takes in one node more; none is a node that was written wrongly.
     fn push_node(&mut self, node: Option<Node>, at: usize) -> Result<(), TaskFault>
         ensures { Agrees (node_added at (value_of self.old) node) (value_of self.new) result }
