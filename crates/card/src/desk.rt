@@ -7,13 +7,13 @@ pub enum Desk<C> {
     Busy(Walk<C>),
 }
 
-/// A call on a card, with its papers.
-#[derive_where(Clone, Copy)]
-pub enum Call<'a, S> {
+/// A call on a card, with its set and its papers, which it owns or borrows.
+#[derive(Clone, Copy, Drop)]
+pub enum Call<S, P = Vec<u8>> {
     /// Lodges a plan.
-    Plan(&'a [u8]),
+    Plan(P),
     /// Lodges a proof over a set.
-    Proof(&'a S, &'a [u8]),
+    Proof(S, P),
     /// Begins a walk.
     Begin,
     /// Takes a step of the walk.

@@ -5,7 +5,7 @@ use Rattle.std.specs.Option.{option_map}
 use Rattle.std.specs.declared.cmp.Ordering.{Ordering}
 use Rattle.std.specs.declared.cmp.Ordering.TheVariants.{Less, Equal, Greater}
 use Rattle.std.specs.Ordering.{is_le, nat_cmp, ordering_then, ordering_reverse}
-use Rattle.std.proofs.Common.{sym, ap, ◌∙◌, inl, inr, ⊎_elim, arith}
+use Rattle.std.proofs.Common.{sym, ap, subst, ◌∙◌, inl, inr, ⊎_elim, arith}
 use Rattle.std.proofs.lemmas.Bool.{leb-true, le-leb, false≢true, cases_Bool, cases_lt}
 use Rattle.std.proofs.lemmas.Bool.Decides.{nat_tests}
 use Rattle.costs.specs.Kind.{Kind, Ordered}
@@ -80,6 +80,15 @@ counted_ordered one together = record {
 -- Comparing counts is comparing their numbers.
 pub counted_compared : {Q : Type 0} (a b : Amount Q) → is_le (ordering_then (nat_cmp a.count b.count) Equal) ≡ nat_le a.count b.count
 counted_compared a b = grind (arith, nat_tests)
+
+module _ {Q : Type 0} {K : Kind (Amount Q)} (one : ℕ → ℕ → ℕ) (together : ℕ → ℕ → Option ℕ) (counts : K ≡ counted one together) where
+  -- A kind that counts has the total order of counts.
+  pub kind_ordered : Ordered K
+  kind_ordered = subst Ordered (sym counts) (counted_ordered one together)
+
+  -- Comparing counts is comparing by the order of a kind that counts.
+  pub kind_compared : (a b : Amount Q) → is_le (ordering_then (nat_cmp a.count b.count) Equal) ≡ K.le a b
+  kind_compared a b = counted_compared a b ∙ λ i. (sym counts i).le a b
 
 -- By the first part, and among equals by the second: given whether the first is at most, whether it is at least, and
 -- whether the second is at most.

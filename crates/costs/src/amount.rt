@@ -1,6 +1,8 @@
 //! Costs that are numbers.
 ghost use Rattle.std.specs.Prelude.{◌≡◌, ℕ, Option, Some, decimal};
-ghost use Rattle.costs.specs.Kinds.{counted, counted_ordered, counted_compared};
+ghost use Rattle.costs.specs.declared.amount.Amount.{Amount};
+ghost use Rattle.costs.specs.Kind.{Kind};
+ghost use Rattle.costs.specs.Kinds.{counted, kind_ordered, kind_compared};
 
 use crate::cost::Cost;
 use std::fmt;
@@ -13,6 +15,12 @@ pub trait Quantity {
 
     /// Both counts together, unless they are refused.
     ghost together: { ℕ → ℕ → Option ℕ };
+
+    /// What kind of cost the count is.
+    ghost kind: { Kind (Amount Self) };
+
+    /// That kind counts an operator and puts two counts together by these.
+    ghost counts: { kind ≡ counted one together };
 
     /// The count of an operator that takes these minutes and this crew.
     fn of(minutes: u32, crew: u32) -> u32
@@ -42,11 +50,11 @@ impl<Q> From<u32> for Amount<Q> {
 }
 
 impl<Q: Quantity> Cost for Amount<Q> {
-    ghost kind = { counted Q.one Q.together };
+    ghost kind = { Q.kind };
 
-    ghost ordered = { counted_ordered Q.one Q.together };
+    ghost ordered = { kind_ordered Q.one Q.together Q.counts };
 
-    ghost compared = { counted_compared };
+    ghost compared = { kind_compared Q.one Q.together Q.counts };
 
     fn zero() -> Amount<Q> {
         Amount::from(0)

@@ -24,6 +24,13 @@ pub trait Cost: Copy + Ord {
     fn join(self, other: Self) -> Option<Self>
         ensures { result ≡ kind.join self other };
 
+    /// Whether this cost is no larger than the other.
+    final fn at_most(&self, other: &Self) -> bool
+        ensures { result ≡ kind.le self.now other.now }
+    {
+        self <= other
+    }
+
     /// The order that costs are compared by is the kind's.
     ghost compared: { (a b : Self) → is_le (Self.cmp a b) ≡ kind.le a b };
 }

@@ -1,5 +1,6 @@
 //! The kinds of cost: minutes, crew, steps, and a pair of any two kinds.
-ghost use Rattle.costs.specs.Kinds.{summed, larger};
+ghost use Rattle.std.specs.Prelude.{refl};
+ghost use Rattle.costs.specs.Kinds.{summed, larger, minutes, crew, steps};
 
 use crate::amount::{Amount, Quantity};
 pub use crate::pair::Pair;
@@ -27,6 +28,10 @@ impl Quantity for OfMinutes {
 
     ghost together = { summed };
 
+    ghost kind = { minutes };
+
+    ghost counts = { refl };
+
     fn of(minutes: u32, _crew: u32) -> u32 {
         minutes
     }
@@ -40,6 +45,10 @@ impl Quantity for OfCrew {
     ghost one = { λ m c. c };
 
     ghost together = { larger };
+
+    ghost kind = { crew };
+
+    ghost counts = { refl };
 
     fn of(_minutes: u32, crew: u32) -> u32 {
         crew
@@ -55,6 +64,10 @@ impl Quantity for OfSteps {
     ghost one = { λ m c. 1 };
 
     ghost together = { summed };
+
+    ghost kind = { steps };
+
+    ghost counts = { refl };
 
     fn of(_minutes: u32, _crew: u32) -> u32 {
         1

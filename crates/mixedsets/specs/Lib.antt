@@ -1,2 +1,3 @@
 pub mod PaperSets
+pub mod OwnedSets
 pub mod LayeredSets

@@ -28,40 +28,50 @@ impl Connective {
     }
 }
 
-/// A set paper, or a layer over such sets.
+/// A set paper, borrowed or owned, or a layer over such sets.
 #[derive(Drop)]
-pub enum LayeredSet<'a> {
-    Paper(PaperSet<'a>),
-    Complement(Box<LayeredSet<'a>>),
-    Pair(Connective, Box<LayeredSet<'a>>, Box<LayeredSet<'a>>),
+pub enum Layered<P> {
+    Paper(P),
+    Complement(Box<Layered<P>>),
+    Pair(Connective, Box<Layered<P>>, Box<Layered<P>>),
 }
 
+/// A set paper that is read where it lies, or a layer over such sets.
+pub type LayeredSet<'a> = Layered<PaperSet<'a>>;
+
 /// The width of the first paper.
-fn width_of(set: &LayeredSet<'_>) -> u8
-    ensures { result ≡ layered_wide set.now }
+fn width_of<P: StateSet>(set: &Layered<P>) -> u8
+    ensures { result ≡ layered_wide P.StateSet.wide set.now }
 {
     match set {
-        LayeredSet::Paper(paper) => paper.width(),
-        LayeredSet::Complement(part) => width_of(part),
-        LayeredSet::Pair(_, first, _) => width_of(first),
+        Layered::Paper(paper) => paper.width(),
+        Layered::Complement(part) => width_of(part),
+        Layered::Pair(_, first, _) => width_of(first),
+    }
+}
+
+/// The answer of a paper to a cube of its width, and none to any other.
+// Kept out of line: in line it took the room for a diagram's truths, a kibibyte, in the frame of each layer.
+#[inline(never)]
+fn paper_answer_at<P: StateSet>(paper: &P, cube: &Cube) -> Option<Truth>
+    ensures { result ≡ told_at (P.StateSet.wide paper.now) (partial cube.now) (P.StateSet.answer paper.now (partial cube.now)) }
+{
+    // Kept: with `then` the proof was tried and did not close.
+    if cube.width() == paper.width() {
+        Some(paper.ask(cube))
+    } else {
+        None
     }
 }
 
 /// The answer to a cube of the set's width, and none to any other: a layer's is made of its parts' by three-valued logic.
-fn answer_at(set: &LayeredSet<'_>, cube: &Cube) -> Option<Truth>
-    ensures { result ≡ told_at (layered_wide set.now) (partial cube.now) (layered_answer set.now (partial cube.now)) }
+fn answer_at<P: StateSet>(set: &Layered<P>, cube: &Cube) -> Option<Truth>
+    ensures { result ≡ told_at (layered_wide P.StateSet.wide set.now) (partial cube.now) (layered_answer P.StateSet.wide P.StateSet.answer set.now (partial cube.now)) }
 {
     match set {
-        LayeredSet::Paper(paper) => {
-            // Kept: with `then` the proof was tried and did not close.
-            if cube.width() == paper.width() {
-                Some(paper.ask(cube))
-            } else {
-                None
-            }
-        }
-        LayeredSet::Complement(part) => Some(answer_at(part, cube)?.not()),
-        LayeredSet::Pair(connective, first, second) => {
+        Layered::Paper(paper) => paper_answer_at(paper, cube),
+        Layered::Complement(part) => Some(answer_at(part, cube)?.not()),
+        Layered::Pair(connective, first, second) => {
             let first = answer_at(first, cube)?;
             let second = answer_at(second, cube).unwrap_or(Truth::False);
             Some(connective.join(first, second))
@@ -69,14 +79,14 @@ fn answer_at(set: &LayeredSet<'_>, cube: &Cube) -> Option<Truth>
     }
 }
 
-impl<'a> StateSet for LayeredSet<'a> {
-    ghost wide = { layered_wide };
+impl<P: StateSet> StateSet for Layered<P> {
+    ghost wide = { layered_wide P.StateSet.wide };
 
-    ghost has = { layered_has };
+    ghost has = { layered_has P.StateSet.wide P.StateSet.has };
 
-    ghost answer = { layered_answer };
+    ghost answer = { layered_answer P.StateSet.wide P.StateSet.answer };
 
-    ghost meant = { layered_laws };
+    ghost meant = { layered_laws P.StateSet.meant };
 
     fn width(&self) -> u8 {
         width_of(self)

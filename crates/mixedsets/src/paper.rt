@@ -13,6 +13,13 @@ use setpapers::formula::FormulaSet;
 use setpapers::list::ListSet;
 use sets::set::StateSet;
 
+/// A set paper, and the width that it is read at.
+#[derive(Drop)]
+pub struct SetPaper {
+    pub width: u8,
+    pub paper: Vec<u8>,
+}
+
 /// A set read where its paper lies, of one kind or another.
 #[derive(Clone, Copy)]
 pub enum PaperSet<'a> {

@@ -120,6 +120,10 @@ impl Command<'_> {
 /// The words of a line, without its comment: they are parted by spaces, tabs, carriage returns and line feeds.
 fn words(heap: Global, line: &str) -> Result<Vec<&str>, AllocError> {
     let text = line.split_once('#').map_or(line, |(text, _comment)| text);
+    // Kept: two ways to the same words. Papers in hexadecimal are long words, which the first passes eight bytes at a time; it parts at form feeds too.
+    if text.contains("hex:") && !text.contains('\u{c}') {
+        return text.split_ascii_whitespace().collect(heap);
+    }
     text.split([' ', '\t', '\r', '\n'])
         .filter(|word| !word.is_empty())
         .collect(heap)

@@ -1,6 +1,7 @@
 //! Works the lines of a script on a task place and a card, and prints what comes of each.
 #![tactic(auto)]
 
+pub mod lines;
 mod loading;
 mod place;
 mod printing;

@@ -1,7 +1,8 @@
 //! Works a whole script.
+use crate::lines::Lines;
 use crate::place::Place;
 use crate::stop::Stop;
-use crate::table::{OpenCard, Table};
+use crate::table::Table;
 use card::card::Card;
 use card::desk::Desk;
 use costs::cost::Cost;
@@ -12,41 +13,36 @@ use std::io;
 use std::io::{BufRead, BufReader, Read};
 use std::process::ExitCode;
 
-/// A run: the lines of its script, how many were read, and its task place.
+/// A session: the lines of its script, how many were read, and its task place.
 #[derive(Drop)]
-struct Run<'r, R> {
-    rt: &'r HostRuntime,
+struct Session<'s, R> {
+    rt: &'s HostRuntime,
     lines: io::Lines<R>,
-    // Kept: lent, since the end of a run that fails is told with its line after the run is gone.
-    count: &'r mut u64,
+    // Kept: lent, since the end of a run that fails is told with its line after the session is gone.
+    count: &'s mut u64,
     place: Place,
 }
 
-impl<R: BufRead + Drop> Run<'_, R> {
-    /// Works the lines that follow, with this card or none open; answers the kind of the next card, if there is one.
+impl<R: BufRead + Drop> Session<'_, R> {
+    /// Works the lines that follow, with this card or none open, and closes it; answers the kind of the next card, if there is one.
     fn work_lines<C: Cost + Display>(
         &mut self,
-        card: Option<OpenCard<C>>,
+        card: Option<Desk<C>>,
     ) -> Result<Option<KindWords>, Stop> {
         let mut table = Table {
             rt: self.rt,
             place: &mut self.place,
             card,
         };
-        for line in &mut self.lines {
-            *self.count = self.count.saturating_add(1);
-            let next = table.work_line(line?.as_str())?;
-            if next.is_some() {
-                return Ok(next);
-            }
-        }
-        Ok(None)
+        let next = table.work_lines(&mut self.lines, self.count);
+        table.close();
+        next
     }
 
     /// Opens a card and works the lines that follow.
     fn work_card<C: Cost + Display>(&mut self) -> Result<Option<KindWords>, Stop> {
         let card: Card<C> = Card::open(self.place.copy(self.rt)?);
-        self.work_lines(Some(OpenCard(Desk::Idle(card))))
+        self.work_lines(Some(Desk::Idle(card)))
     }
 
     /// The same, for a card whose cost is a pair, the first of which is in `A`.
@@ -79,31 +75,39 @@ fn work_script<R: BufRead + Drop>(
     script: R,
     count: &mut u64,
 ) -> Result<(), Stop> {
-    let mut run = Run {
+    let mut session = Session {
         rt,
         lines: script.lines(rt.alloc()),
         count,
         place: Place::new(rt)?,
     };
-    let mut next = run.work_lines::<Minutes>(None)?;
+    let mut next = session.work_lines::<Minutes>(None)?;
     // Kept: counted, since a `while let` wants a proof that each card takes a line, in the contracts of four functions.
     for _ in 0..u64::MAX {
         let Some(kind) = next else {
             break;
         };
-        next = run.work_kind(kind)?;
+        next = session.work_kind(kind)?;
     }
     Ok(())
 }
 
+/// Works every line of the script, and prints a line for each command.
+pub fn run<R: BufRead>(rt: &HostRuntime, lines: &mut Lines<R>) -> Result<(), Stop> {
+    work_script(rt, &mut lines.reader, &mut lines.count)
+}
+
 /// Works a script, and prints a line for each command; where the run ends early, says on standard error at which line and why.
 pub fn work<R: Read + Drop>(rt: &HostRuntime, program: &str, script: R) -> io::Result<ExitCode> {
-    let script = BufReader::new(rt.alloc(), script)?;
-    let mut count = 0;
-    match work_script(rt, script, &mut count) {
+    let mut lines = Lines {
+        reader: BufReader::new(rt.alloc(), script)?,
+        count: 0,
+    };
+    match run(rt, &mut lines) {
         Ok(()) => Ok(ExitCode::SUCCESS),
         Err(stop) => {
-            eprintln!(rt; "{program}: line {count}: {stop}")?;
+            let line = lines.count;
+            eprintln!(rt; "{program}: line {line}: {stop}")?;
             Ok(ExitCode::FAILURE)
         }
     }

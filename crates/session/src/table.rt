@@ -11,48 +11,58 @@ use script::command::Command;
 use script::kind::KindWords;
 use script::paper::PaperWord;
 use script::set::SetWords;
-use std::alloc::{AllocError, Global};
 use std::fmt::Display;
-use std::slice;
-
-/// A card that is open. Where it is let go, a walk on it is given up.
-pub(crate) struct OpenCard<C: Cost>(pub Desk<C>);
-
-impl<C: Cost> Drop for OpenCard<C> {
-    fn drop(self) {
-        let OpenCard(desk) = self;
-        match desk {
-            Desk::Idle(_card) => {}
-            Desk::Busy(walk) => {
-                let _card = walk.give_up();
-            }
-        }
-    }
-}
-
-impl<C: Cost> OpenCard<C> {
-    /// Works one call.
-    // Kept: a row of one, since the project wants the law over rows of calls in the contract of the call that the program makes.
-    fn work(
-        self,
-        heap: Global,
-        call: &Call<'_, LayeredSet<'_>>,
-    ) -> (OpenCard<C>, Result<Vec<Reply<C>>, AllocError>) {
-        let OpenCard(desk) = self;
-        let (desk, replies) = desk.work(heap, slice::from_ref(call));
-        (OpenCard(desk), replies)
-    }
-}
+use std::io::BufRead;
+use std::{io, slice};
 
 /// The task place, and the card, if one is open.
-#[derive(Drop)]
-pub(crate) struct Table<'t, C: Cost> {
+// Kept: not `Drop`, so that no walk is lost unnoticed.
+pub(crate) struct Table<'t, C> {
     pub rt: &'t HostRuntime,
     pub place: &'t mut Place,
-    pub card: Option<OpenCard<C>>,
+    pub card: Option<Desk<C>>,
+}
+
+/// Lets the card go, if one is open; a walk on it is given up.
+fn let_go<C: Cost>(card: Option<Desk<C>>) {
+    match card {
+        Some(Desk::Busy(walk)) => {
+            let _card = walk.give_up();
+        }
+        Some(Desk::Idle(_card)) => {}
+        None => {}
+    }
 }
 
 impl<C: Cost + Display> Table<'_, C> {
+    /// Works the lines that follow, and counts them; answers the kind of the next card, where a line opens one.
+    pub(crate) fn work_lines<R: BufRead + Drop>(
+        &mut self,
+        lines: &mut io::Lines<R>,
+        count: &mut u64,
+    ) -> Result<Option<KindWords>, Stop> {
+        for line in lines {
+            *count = count.saturating_add(1);
+            let next = self.work_line(line?.as_str())?;
+            if next.is_some() {
+                return Ok(next);
+            }
+        }
+        // The end of the script counts as a line that is read.
+        *count = count.saturating_add(1);
+        Ok(None)
+    }
+
+    /// Lets the card go, where the lines end that are worked on it.
+    pub(crate) fn close(self) {
+        let Table {
+            rt: _,
+            place: _,
+            card,
+        } = self;
+        let_go(card);
+    }
+
     /// Works one line; answers the kind of the next card, where the line opens one.
     pub(crate) fn work_line(&mut self, line: &str) -> Result<Option<KindWords>, Stop> {
         let heap = self.rt.alloc();
@@ -85,7 +95,7 @@ impl<C: Cost + Display> Table<'_, C> {
     /// The card that is open.
     fn desk(&self) -> Result<&Desk<C>, Stop> {
         match &self.card {
-            Some(OpenCard(desk)) => Ok(desk),
+            Some(desk) => Ok(desk),
             None => Err(Stop::NoCard),
         }
     }
@@ -93,7 +103,7 @@ impl<C: Cost + Display> Table<'_, C> {
     /// Refuses to leave a walk that is under way.
     fn at_rest(&self) -> Result<(), Stop> {
         match &self.card {
-            Some(OpenCard(Desk::Busy(_))) => Err(Stop::Walking),
+            Some(Desk::Busy(_)) => Err(Stop::Walking),
             _ => Ok(()),
         }
     }
@@ -120,7 +130,7 @@ impl<C: Cost + Display> Table<'_, C> {
         };
         let paper = load(self.rt, word)?;
         let papers = Bump::new(self.rt.alloc());
-        match load_set(self.rt, &papers, width, set) {
+        match load_set(self.rt, &papers, width, &set) {
             Ok(set) => self.work_call("proof", Call::Proof(&set, &paper)),
             Err(Unmade::Refused(fault)) => print_fault(self.rt, "set", &fault),
             Err(Unmade::Stopped(stop)) => Err(stop),
@@ -129,10 +139,12 @@ impl<C: Cost + Display> Table<'_, C> {
 
     /// Works one call on the card, and prints what it was answered.
     // Kept: the name beside the call, as each is made; a match from calls to names would be six lines more.
-    fn work_call(&mut self, what: &str, call: Call<'_, LayeredSet<'_>>) -> Result<(), Stop> {
-        let card = self.card.take().ok_or(Stop::NoCard)?;
-        let (card, replies) = card.work(self.rt.alloc(), &call);
-        self.card = Some(card);
+    fn work_call(&mut self, what: &str, call: Call<&LayeredSet<'_>, &[u8]>) -> Result<(), Stop> {
+        let desk = self.card.take().ok_or(Stop::NoCard)?;
+        // Kept: a row of one, since the project wants the law over rows of calls in the contract of the call that the program makes.
+        let (desk, replies) = desk.work(self.rt.alloc(), slice::from_ref(&call));
+        // Kept: no plain assignment, which would drop what is there, though that is none, as it was taken.
+        let_go(self.card.replace(desk));
         for reply in &replies? {
             match reply {
                 Reply::Judged(verdict) => print_judged(self.rt, what, verdict)?,

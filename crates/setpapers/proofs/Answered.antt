@@ -1,14 +1,29 @@
 -- One entry more of a diagram is answered.
-use Rattle.std.proofs.Common.{◌≡◌, ℕ, ◌+◌, ◌<◌, true, ◌≢◌, List, length, get_or, set, sym, refl, ap, ◌∙◌, ap₂, arith, below_more}
+use Rattle.std.proofs.Common.{◌≡◌, ℕ, ◌+◌, ◌<◌, ◌≤◌, true, ◌≢◌, List, length, get_or, set, subst, sym, refl, ap, ◌∙◌, ap₂, arith, below_more}
 use Rattle.std.proofs.lemmas.List.{get_or-set_same, get_or-set_other}
 use Rattle.logic.specs.declared.truth.Truth.{Truth}
 use Rattle.logic.specs.declared.truth.Truth.TheVariants.{True as Inside, False as Outside}
 use Rattle.setpapers.specs.declared.entry.Child.{Child}
+use Rattle.setpapers.specs.declared.entry.Child.TheVariants.{Outside as Out, Inside as In, Entry as EntryAt}
 use Rattle.setpapers.specs.declared.entry.Entry.{Entry}
 use Rattle.setpapers.specs.Rows.{all, all_at}
 use Rattle.setpapers.specs.Decisions.{out, inn, pick, answers, Decision}
 use Rattle.setpapers.specs.Diagrams.{child, decision_at, lawful}
 use Rattle.setpapers.specs.DiagramLaws.{Under, low_below, high_below, child_so, decision_node}
+
+-- a child below i is below more
+under_more : (i n : ℕ) → i ≤ n → (c : Child) → Under i c → Under n c
+under_more i n le Out l = tt
+under_more i n le In l = tt
+under_more i n le (EntryAt j) l = omega arith
+
+-- the children of a lawful entry are below n
+pub children_under : (w : ℕ) (e : ℕ → Entry) (k : ℕ) → all (lawful w e) k ≡ true → (i n : ℕ) → i < k → i ≤ n → (x : Entry) → x ≡ e i → Under n x.low × Under n x.high
+children_under w e k fine i n here le x is =
+    let o = all_at (lawful w e) k fine i here in (
+      subst (λ (y : Entry). Under n y.low) (sym is) (under_more i n le (e i).low (low_below w e i o)),
+      subst (λ (y : Entry). Under n y.high) (sym is) (under_more i n le (e i).high (high_below w e i o)),
+    )
 
 -- the answers of the entries below i
 abbrev pub Answered : (ℕ → Truth) → (ℕ → Entry) → List Truth → ℕ → Type 0

@@ -28,10 +28,14 @@ pub type ListSet<'a> = ReadSet<'a, ListKind>;
 fn count_in(body: &[u8], cube: &Cube) -> usize
     ensures { result ≡ tally (holds_state (partial cube.now)) (state_at body.now) (states body.now) }
 {
-    ListKind::entries(body)
-        .iter()
-        .filter(|state| cube.agrees(u64::from_le_bytes(**state)))
-        .count()
+    // Kept: a loop; counted by `filter` and `count` the states were tested one by one, and not four at once.
+    let mut found = 0;
+    for state in ListKind::entries(body) {
+        if cube.agrees(u64::from_le_bytes(*state)) {
+            found += 1;
+        }
+    }
+    found
 }
 
 impl SetKind for ListKind {

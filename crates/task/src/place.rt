@@ -22,7 +22,8 @@ pub struct Task {
     nodes: Vec<Node>,
     operators: Vec<Operator>,
     goal: Option<u16>,
-    named: Names,
+    // A box, so that moving a task moves no kibibyte of marks.
+    named: Box<Names>,
     ghost node_room: { 1024 ≤ vec_capacity nodes },
     ghost operator_room: { 128 ≤ vec_capacity operators },
     ghost width: { n ≤ 64 },
@@ -32,6 +33,6 @@ pub struct Task {
     ghost ruled: { Lawful n nodes.items },
     ghost rooted: { Rooted nodes.items operators.items },
     ghost aimed: { aims nodes.items goal ≡ true },
-    ghost marked: { Marks named.marks (names (value n start nodes.items operators.items goal)) },
+    ghost marked: { Marks named.value.marks (names (value n start nodes.items operators.items goal)) },
     ghost once: { Once (names (value n start nodes.items operators.items goal)) },
 }

@@ -31,13 +31,14 @@ impl Task {
     {
         let nodes = Vec::with_capacity(heap, NODES)?;
         let operators = Vec::with_capacity(heap, OPERATORS)?;
+        let named = Box::new(heap, Names::none())?;
         Ok(Task {
             n: 0,
             start: 0,
             nodes,
             operators,
             goal: None,
-            named: Names::none(),
+            named,
         })
     }
 
@@ -50,7 +51,7 @@ impl Task {
         self.nodes.clear();
         self.operators.clear();
         self.goal = None;
-        self.named = Names::none();
+        *self.named = Names::none();
     }
 
     /// Begins the task that a header announces.

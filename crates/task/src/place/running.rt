@@ -24,7 +24,9 @@ impl NodeTable for Task {
     ghost ordered = { ordered_of };
 
     fn node(&self, at: usize) -> Node {
-        *self.nodes.get(at).unwrap_or(&Node::False)
+        // Copied before the default stands in, since a borrowed default costs each node of each formula more.
+        let node = self.nodes.get(at).copied();
+        node.unwrap_or(Node::False)
     }
 }
 

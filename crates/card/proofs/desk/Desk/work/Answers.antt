@@ -13,7 +13,7 @@ loop-call-init g c =
       search rules,
       λ m h s. record {
         after = h;
-        follows = subst (λ (rs : List (Reply g.row.C.Denot)). Follows g.S.StateSet.answer [] rs h h) (sym made.items) refl;
+        follows = subst (λ (rs : List (Reply g.row.C.Denot)). Follows g.S.StateSet.answer g.P.AsSlice.items [] rs h h) (sym made.items) refl;
         stands = s;
       },
     )
@@ -25,7 +25,7 @@ loop-call-preserved g c = (
   search rules,
   λ m h s.
       let before = c.loop-call.invariant.3 m h s in
-      works_push g.C.Cost.kind g.S.StateSet.answer m c.args.calls.now c.loop-call.call-index c.call-item.result c.loop-call-test.true c.call-item.is
+      works_push g.C.Cost.kind g.S.StateSet.answer g.P.AsSlice.items m c.args.calls.now c.loop-call.call-index c.call-item.result c.loop-call-test.true c.call-item.is
       (vec_items c.loop-call.replies) (vec_items c.push_reserved.new.self) c.obey-next.result.1 c.push_reserved.ensures.items h c.loop-call.desk c.obey-next.result.0 before
       (c.obey-next.ensures m before.after before.stands),
 )
@@ -35,6 +35,6 @@ returns g c = λ m h s.
     let all = c.loop-call.invariant.3 m h s in
     record {
       after = all.after;
-      follows = subst (λ (cs : List (Call g.row.S.Denot)). Follows g.S.StateSet.answer cs (vec_items c.loop-call.replies) h all.after) (take_all _ _ c.loop-call-test.false) all.follows;
+      follows = subst (λ (cs : List (Call g.row.S.Denot g.row.P.Denot)). Follows g.S.StateSet.answer g.P.AsSlice.items cs (vec_items c.loop-call.replies) h all.after) (take_all _ _ c.loop-call-test.false) all.follows;
       stands = all.stands;
     }

@@ -26,12 +26,12 @@ pub invariant_of-self-2-clause-once : goal.invariant_of-self-2-clause-once
 invariant_of-self-2-clause-once c =
     let t = c.args.self.now in
     let good : lawful t.n (vec_items t.nodes) c.in-Some.node ≡ true = search rules in
-    let claim = c.if-not-claim_children.ensures.named (names (value_of t)) (children_below t.n (vec_items t.nodes) c.in-Some.node 1024 (sound t).few_nodes good) t.marked in
+    let claim = c.if-not-claim_children.ensures.named (names (value_of t)) (children_below t.n (vec_items t.nodes) c.in-Some.node 1024 (sound t).few_nodes good) (rw c.deref_mut.ensures.value t.marked) in
     node_once (value_of t) t.once c.in-Some.node _ c.push_reserved.ensures.items (fresh_is claim refl)
 
 pub invariant_of-self-2-clause-marked : goal.invariant_of-self-2-clause-marked
 invariant_of-self-2-clause-marked c =
     let t = c.args.self.now in
     let good : lawful t.n (vec_items t.nodes) c.in-Some.node ≡ true = search rules in
-    let claim = c.if-not-claim_children.ensures.named (names (value_of t)) (children_below t.n (vec_items t.nodes) c.in-Some.node 1024 (sound t).few_nodes good) t.marked in
+    let claim = c.if-not-claim_children.ensures.named (names (value_of t)) (children_below t.n (vec_items t.nodes) c.in-Some.node 1024 (sound t).few_nodes good) (rw c.deref_mut.ensures.value t.marked) in
     node_marks (value_of t) c.in-Some.node _ c.push_reserved.ensures.items (claim.marks refl)

@@ -16,12 +16,12 @@ invariant_of-self-2-clause-once c =
     let t = c.args.self.now in
     let good : rooted (vec_items t.nodes) c.args.operator ≡ true = search rules in
     let low = roots_below (vec_items t.nodes) c.args.operator (sound t).few_nodes good in
-    operator_once (value_of t) t.once c.args.operator _ c.push_reserved.ensures.items (fresh_is (c.if-not-claim_both.ensures.named (names (value_of t)) low.0 low.1 t.marked) refl)
+    operator_once (value_of t) t.once c.args.operator _ c.push_reserved.ensures.items (fresh_is (c.if-not-claim_both.ensures.named (names (value_of t)) low.0 low.1 (rw c.deref_mut.ensures.value t.marked)) refl)
 
 pub invariant_of-self-2-clause-marked : goal.invariant_of-self-2-clause-marked
 invariant_of-self-2-clause-marked c =
     let t = c.args.self.now in
     let good : rooted (vec_items t.nodes) c.args.operator ≡ true = search rules in
     let low = roots_below (vec_items t.nodes) c.args.operator (sound t).few_nodes good in
-    let claim = c.if-not-claim_both.ensures.named (names (value_of t)) low.0 low.1 t.marked in
+    let claim = c.if-not-claim_both.ensures.named (names (value_of t)) low.0 low.1 (rw c.deref_mut.ensures.value t.marked) in
     operator_marks (value_of t) c.args.operator _ c.push_reserved.ensures.items (claim.marks refl)
